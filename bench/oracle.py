@@ -4,10 +4,11 @@ program.
 It takes all sessions but those that end out of memory or behind too many reads, and reads statements by statements.py.
 A report is a run from clock zero; what an edit leaves of a recorded run goes by the items that each step read."""
 import re, sys
+from math import isqrt
 from operator import eq, ge, gt, le, lt, ne
 
 from statements import BLOCKS, COMMANDS, DEFINITIONS, OF_A_STORAGE, OF_BLOCKS, OF_FUNCTIONS, OF_STORAGES
-from statements import OF_THE_MOMENT, OF_VARIABLES
+from statements import OF_TABLES, OF_THE_MOMENT, OF_VARIABLES
 from statements import Fault, is_name, statement_of_edit, statements_of
 
 MODULUS = 2147483647
@@ -31,6 +32,7 @@ class Version:
         self.numbers = {s.label: s.number(0) for s in statements if s.verb == "EQU"}
         self.variables = {s.label: s.tree(0) for s in statements if s.verb == "VARIABLE"}
         self.functions = {s.label: s for s in statements if s.verb == "FUNCTION"}
+        self.tables = {s.label: s for s in statements if s.verb == "TABLE"}
 
     def block(self, id):
         return next((b for b in self.blocks if b.id == id), None)
@@ -70,9 +72,12 @@ class Version:
         functions = [name for of, name in attributes if of in OF_FUNCTIONS]
         if any(f not in self.functions and f not in self.numbers for f in functions):
             return "M3"
+        tables = [name for _, name in self.named("table")] + [name for of, name in attributes if of in OF_TABLES]
+        if any(t not in self.tables and t not in self.numbers for t in tables):
+            return "M3"
         if any(name not in self.numbers for _, name in self.named("name")):
             return "M3"
-        return "M4" if any(s in self.numbers for s in storages + variables + functions) else None
+        return "M4" if any(s in self.numbers for s in storages + variables + functions + tables) else None
 
     def named(self, kind):
         """What the operands of all statements have of a kind."""
@@ -91,9 +96,14 @@ class Level:
     def total(self, clock):
         return self.sum + self.content * (clock - self.at)
 
+    def begin(self, clock):
+        """Counts anew from now on, as a RESET says."""
+        self.sum, self.at, self.entries, self.zero = 0, clock, 0, 0
+        self.least = self.most = self.content
+
 
 class Facility(Level):
-    owner, captures = None, 0
+    owner, entries = None, 0
 
 
 class Queue(Level):
@@ -136,13 +146,29 @@ class Run:
 
     def __init__(self, version, seed):
         self.version, self.seed = version, seed
-        self.clock = self.remaining = self.commands = self.complete = self.steps = 0
-        self.primed, self.next, self.active, self.starting = False, 1, None, 0
+        self.remaining = self.commands = self.complete = self.steps = self.starting = 0
         self.streams = {j: ("set", j) for j in range(1, 8)}
+        self.reads, self.clocks, self.ends = [], [], []
+        self.clear()
+
+    def clear(self):
+        """Nobody is there, nothing was touched, and both clocks stand at 0."""
+        self.clock = self.began = 0
+        self.primed, self.next, self.active = False, 1, None
         self.current, self.future, self.waiting, self.retrying = [], [], {}, []
         self.counts, self.facilities, self.queues, self.storages = {}, {}, {}, {}
-        self.savevalues, self.switches, self.linked = {}, {}, {}
-        self.reads, self.clocks, self.ends = [], [], []
+        self.savevalues, self.switches, self.linked, self.tables = {}, {}, {}, {}
+
+    def reset(self):
+        """Counts and times begin anew; nobody moves, and what is owned or held stays so."""
+        self.began = self.clock
+        for count in self.counts.values():
+            count["entries"] = 0
+        for level in [*self.facilities.values(), *self.queues.values(), *self.storages.values()]:
+            level.begin(self.clock)
+        for chain in self.linked.values():
+            chain.entries = 0
+        self.tables = {name: [] for name in self.tables}
 
     def count(self, id):
         return self.counts.setdefault(id, {"entries": 0, "content": 0, "made": 0})
@@ -184,6 +210,9 @@ class Run:
             return self.function(block, what) // 10**6
         if of in OF_STORAGES:
             return self.of_storage(of, what)
+        if of in OF_TABLES:
+            self.seen.add(("table", what))
+            return len(self.tables.get(what, []))
         key = what if isinstance(what, int) else self.named(what)
         if of == "P":
             if block.verb == "GENERATE" or key not in self.active.parameters:
@@ -192,7 +221,7 @@ class Run:
         self.seen.add((KINDS[of], key))
         if of in ("F", "FC"):
             facility = self.facilities.get(key, Facility())
-            return facility.captures if of == "FC" else int(facility.owner is not None)
+            return facility.entries if of == "FC" else int(facility.owner is not None)
         if of in ("X", "LS"):
             return self.savevalues.get(key, 0) if of == "X" else int(self.switches.get(key, False))
         if of in ("CH", "CC"):
@@ -241,7 +270,8 @@ class Run:
             return self.starting or self.remaining
         if of in ("XN1", "PR"):
             return self.active.number if of == "XN1" else self.active.priority
-        time = self.clock - self.active.mark if of == "M1" else self.clock
+        since = {"M1": self.active and self.active.mark, "C1": self.began, "AC1": 0}
+        time = self.clock - since[of]
         if time > 10**9:
             raise End("X7")
         return time
@@ -353,6 +383,8 @@ class Run:
                 if value:
                     self.drawn[j + 1] = ("set", int(value))
             return self.count_command
+        if command.verb in ("RESET", "CLEAR"):
+            return lambda: (self.count_command(), self.reset() if command.verb == "RESET" else self.clear())
         self.starting = int(command.operands[0])
         try:
             arrivals = [] if self.primed else self.first_arrivals()
@@ -599,7 +631,7 @@ class Run:
 
     def take(self, facility, x):
         facility.owner = x.number
-        facility.captures += 1
+        facility.entries += 1
         facility.change(1, self.clock)
 
     def release(self, x, block):
@@ -719,6 +751,18 @@ class Run:
 
         return go
 
+    def tabulate(self, x, block):
+        name = block.operand(0)
+        self.items.append(("table", name))
+        value = self.evaluate(block, self.version.tables[name].tree(0))
+
+        def go():
+            self.enter(x, block)
+            self.written.add(("table", name))
+            self.tables.setdefault(name, []).append(value)
+
+        return go
+
     def resolved(self, label):
         self.items.append(("label", label))
         return self.version.label(label)
@@ -833,6 +877,29 @@ def thousandths(a, b):
     return f"{n // 1000}.{n % 1000:03}"
 
 
+def signed(n):
+    """A number of thousandths, with a `-` only where a digit that is printed is not 0."""
+    return "-" * (n < 0) + thousandths(abs(n), 1000)
+
+
+def rows_of_table(table, values, retries):
+    """The rows of a table: its name, mean and deviation, and a row for each class with what is above and at most two
+    limits."""
+    first, width, classes, n = *(table.number(place) for place in (1, 2, 3)), len(values)
+    total = sum(values)
+    mean = abs(total) * 1000 // n * (-1 if total < 0 else 1) if n else 0
+    squares = n * sum(x * x for x in values) - total * total
+    deviation = isqrt(10**6 * squares // (n * (n - 1))) if n > 1 else 0
+    limits, below = [first + i * width for i in range(classes - 1)], 0
+    rows = [(table.label, signed(mean), signed(deviation), "", retries)]
+    for low, high in zip([None, *limits], [*limits, None]):
+        inside = sum((low is None or x > low) and (high is None or x <= high) for x in values)
+        below += inside
+        span = f"{'_' if low is None else low} - {'_' if high is None else high}"
+        rows.append(("", "", "", span, "", inside, thousandths(100 * below, n)))
+    return rows
+
+
 def section(columns, rows):
     """A heading and rows: a title with `<` in front is left-aligned."""
     if not rows:
@@ -846,10 +913,10 @@ def section(columns, rows):
 
 
 def report(run, replication, start, outcome):
-    v, clock = run.version, run.clock
+    v, clock, relative = run.version, run.clock, run.clock - run.began
     text = f"REPLICATION {replication} SEED {run.seed} START {start} {outcome}\n"
     head = [("START TIME", 10), ("END TIME", 10), ("BLOCKS", 10), ("FACILITIES", 10), ("STORAGES", 10)]
-    text += section(head, [(0, clock, len(v.blocks), len(run.facilities), len(run.storages))])
+    text += section(head, [(run.began, clock, len(v.blocks), len(run.facilities), len(run.storages))])
     names, values, free = [], [], 10000
     for name in [n for s in v.statements for n in s.names()]:
         if name not in names:
@@ -870,7 +937,7 @@ def report(run, replication, start, outcome):
     columns = "<FACILITY 10,ENTRIES 8,UTIL. 8,AVE. TIME 11,AVAIL. 6,OWNER 7,PEND 4,INTER 5,RETRY 5,DELAY 5"
     text += section(titles(columns), [
         (
-            key, f.captures, thousandths(f.total(clock), clock), thousandths(f.total(clock), f.captures), 1,
+            key, f.entries, thousandths(f.total(clock), relative), thousandths(f.total(clock), f.entries), 1,
             f.owner or 0, 0, 0, run.retries("facility", key), len(run.waiting.get(key, [])),
         )
         for key, f in run.facilities.items()
@@ -878,7 +945,7 @@ def report(run, replication, start, outcome):
     columns = "<QUEUE 10,MAX 8,CONT. 8,ENTRY 8,ENTRY(0) 8,AVE.CONT. 11,AVE.TIME 11,AVE.(-0) 11,RETRY 5"
     text += section(titles(columns), [
         (
-            key, q.most, q.content, q.entries, q.zero, thousandths(q.total(clock), clock),
+            key, q.most, q.content, q.entries, q.zero, thousandths(q.total(clock), relative),
             thousandths(q.total(clock), q.entries), thousandths(q.total(clock), q.entries - q.zero),
             run.retries("queue", key),
         )
@@ -889,11 +956,14 @@ def report(run, replication, start, outcome):
     text += section(titles(columns), [
         (
             name, v.capacities[name], v.capacities[name] - s.content, s.least, s.most, s.entries, 1,
-            thousandths(s.total(clock), clock), thousandths(s.total(clock), v.capacities[name] * clock),
+            thousandths(s.total(clock), relative), thousandths(s.total(clock), v.capacities[name] * relative),
             run.retries("storage", name), len(run.waiting.get(("storage", name), [])),
         )
         for name, s in run.storages.items()
     ])
+    columns = "<TABLE 10,MEAN 14,STD.DEV. 14,RANGE 25,RETRY 5,FREQUENCY 9,CUM.% 7"
+    tables = [rows_of_table(v.tables[name], values, run.retries("table", name)) for name, values in run.tables.items()]
+    text += section(titles(columns), [row for rows in tables for row in rows])
 
     def line(time, x):
         to = x.destination if x.destination is not None else v.after(x.current)
@@ -1000,7 +1070,7 @@ class Session:
                 items |= {("name", s.label)}
             elif s.verb == "STORAGE":
                 items |= {("asks", s.label), ("storage", s.label)}
-            elif s.verb in ("VARIABLE", "FUNCTION"):
+            elif s.verb in ("VARIABLE", "FUNCTION", "TABLE"):
                 items |= {(ITEMS[s.verb], s.label)}
             else:
                 first = sum(b.verb in COMMANDS for b in statements[: place - 1]) + 1
@@ -1027,6 +1097,8 @@ class Session:
             if old.verb == "STORAGE":
                 items = {("between", old.label, *sorted((old.number(0), new.number(0))))}
                 items |= {("storage", old.label)} if old.number(0) != new.number(0) else set()
+            elif old.verb == "TABLE":
+                items = {("table", old.label)} if old.operand(0) != new.operand(0) else set()
             else:
                 items = {(ITEMS[old.verb], old.label)} if old.listed != new.listed else set()
         else:
@@ -1113,7 +1185,7 @@ LINES |= {"seed": NUMBER * 2, "replicate": NUMBER * 2, "drop": NUMBER, "quit": "
 
 
 # Which item a definition answers.
-ITEMS = {"EQU": "name", "VARIABLE": "variable", "FUNCTION": "function"}
+ITEMS = {"EQU": "name", "VARIABLE": "variable", "FUNCTION": "function", "TABLE": "table"}
 
 
 def touched_by(items, item):

@@ -3,18 +3,14 @@ import re
 
 BLOCKS = (
     "GENERATE ADVANCE TERMINATE QUEUE DEPART SEIZE RELEASE ENTER LEAVE TRANSFER TEST GATE LOGIC SAVEVALUE MARK"
-    " PRIORITY BUFFER ASSIGN LOOP SPLIT LINK UNLINK"
+    " PRIORITY BUFFER ASSIGN LOOP SPLIT LINK UNLINK TABULATE"
 ).split()
-DEFINITIONS = "STORAGE EQU VARIABLE FUNCTION".split()
-COMMANDS = "START RMULT".split()
-# The verbs of later stages, which are no names either.
-LATER_DEFINITIONS = ["TABLE"]
-LATER_COMMANDS = "RESET CLEAR".split()
-LATER_BLOCKS = ["TABULATE"]
-VERBS = BLOCKS + DEFINITIONS + COMMANDS + LATER_DEFINITIONS + LATER_COMMANDS + LATER_BLOCKS
-# The operands of a verb: a value, an entity, one with a sign behind it or none, a storage, a label, a fraction, an
-# expression, a number, a count, a seed, a value or ALL (`some`), FIFO or LIFO (`order`), or a key word; `!` where one
-# must be there.
+DEFINITIONS = "STORAGE EQU VARIABLE FUNCTION TABLE".split()
+COMMANDS = "START RESET CLEAR RMULT".split()
+VERBS = BLOCKS + DEFINITIONS + COMMANDS
+# The operands of a verb: a value, an entity, one with a sign behind it or none, a storage, a table, a label, a
+# fraction, an expression, a number, a count, a number of classes, a seed, a value or ALL (`some`), FIFO or LIFO
+# (`order`), or a key word; `!` where one must be there.
 FORMS = {
     "GENERATE": "value value value value value",
     "ADVANCE": "value value",
@@ -38,11 +34,15 @@ FORMS = {
     "SPLIT": "value! label",
     "LINK": "entity! order!",
     "UNLINK": "entity! label! some",
+    "TABULATE": "table!",
     "STORAGE": "count!",
     "EQU": "number!",
     "VARIABLE": "expression!",
     "FUNCTION": "value! curve!",
+    "TABLE": "value! number! count! classes!",
     "START": "count! NP",
+    "RESET": "",
+    "CLEAR": "",
     "RMULT": "seed seed seed seed seed seed seed",
 }
 # The operators of a verb that has one: a word of its own in front of the operands.
@@ -59,6 +59,7 @@ OF_BLOCKS = "N W".split()
 OF_STORAGES = "S R SC SM".split()
 OF_VARIABLES = ["V"]
 OF_FUNCTIONS = ["FN"]
+OF_TABLES = ["TC"]
 OF_ENTITIES = "P F FC Q QC QM QZ X LS CH CC".split()
 POINT = r"-?(?:[0-9]+(?:\.[0-9]{0,6})?|\.[0-9]{1,6})"
 TOKEN = re.compile(r"[A-Z0-9_$]+|[-+#\\@()]")
@@ -230,10 +231,8 @@ def parts(line):
     ascii_only(code[: start + end])
     if label is not None and not is_name(label):
         raise Fault("L4")
-    if (label is None and verb in DEFINITIONS) or (label is not None and verb in COMMANDS + LATER_COMMANDS):
+    if (label is None and verb in DEFINITIONS) or (label is not None and verb in COMMANDS):
         raise Fault("L4")
-    if verb not in FORMS:
-        raise Fault("L3")
     if auxiliary == "":
         raise Fault("L6 0")
     if auxiliary and auxiliary not in AUXILIARIES[verb]:
@@ -283,6 +282,8 @@ def read_operands(verb, auxiliary, operands):
         if place > len(forms):
             raise Fault(f"L7 {place}")
         try:
+            if forms[place - 1] == "classes!" and word and not last_limit_is_a_value(*operands[1:3], word):
+                raise Bad
             yield read_operand(forms[place - 1].rstrip("!"), word) if word else None
         except Bad:
             raise Fault(f"L5 {place}") from None
@@ -290,6 +291,12 @@ def read_operands(verb, auxiliary, operands):
     missing = [place for place, form in enumerate(forms) if form.endswith("!") and not given[place]]
     if missing or verb == "GENERATE" and not (given[0] or given[3]):
         raise Fault(f"L6 {missing[0] + 1 if missing else 1}")
+
+
+def last_limit_is_a_value(first, width, classes):
+    """Whether the limit of the last class but one of a TABLE is a value; its first limit and its width are lawful, or
+    absent."""
+    return not (first and width and classes.isdigit()) or int(first) + (int(classes) - 2) * int(width) <= 10**9
 
 
 def read_operand(form, word):
@@ -307,7 +314,7 @@ def read_operand(form, word):
         return constant(word, 1)
     if form == "entity" and attribute(word):
         return attribute(word)
-    if form in ("entity", "storage", "label"):
+    if form in ("entity", "storage", "table", "label"):
         return named(form, word)
     return as_word(form, word)
 
@@ -327,8 +334,8 @@ def as_word(form, word):
         if not re.fullmatch("[CD][0-9]+", word) or not 1 <= int(word[1:]) <= 1000:
             raise Bad
     else:
-        least = -(10**9) if form == "number" else 1
-        constant(word, least, 2147483646 if form == "seed" else 10**9)
+        least = {"number": -(10**9), "classes": 2}.get(form, 1)
+        constant(word, least, {"seed": 2147483646, "classes": 1000}.get(form, 10**9))
     return "word", word
 
 
@@ -359,7 +366,7 @@ def attribute(word):
     if read is None:
         return None
     of, digits, name = read.groups()
-    of_definitions = OF_STORAGES + OF_VARIABLES + OF_FUNCTIONS
+    of_definitions = OF_STORAGES + OF_VARIABLES + OF_FUNCTIONS + OF_TABLES
     with_names, numbered = OF_BLOCKS + of_definitions + OF_ENTITIES, of_definitions + OF_ENTITIES + ["RN"]
     if digits and of in numbered and 1 <= int(digits) <= (7 if of == "RN" else 10**9):
         return "attribute", of, int(digits)

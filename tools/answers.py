@@ -9,9 +9,14 @@ SECTIONS = {
     "FACILITY": ["ENTRIES", "UTIL.", "AVE. TIME", "AVAIL.", "OWNER", "PEND", "INTER", "RETRY", "DELAY"],
     "QUEUE": ["MAX", "CONT.", "ENTRY", "ENTRY(0)", "AVE.CONT.", "AVE.TIME", "AVE.(-0)", "RETRY"],
     "STORAGE": ["CAP.", "REM.", "MIN.", "MAX.", "ENTRIES", "AVL.", "AVE.C.", "UTIL.", "RETRY", "DELAY"],
+    "TABLE": ["MEAN", "STD.DEV.", "RANGE", "RETRY", "FREQUENCY", "CUM.%"],
     "CEC XN": ["PRI", "M1", "CURRENT", "NEXT"],
     "FEC XN": ["PRI", "BDT", "CURRENT", "NEXT"],
 }
+
+
+# What a section of tables is cut into: a row for each table, and one for each class with its two limits.
+TABLE, CLASS = ["TABLE", "MEAN", "STD.DEV.", "RETRY"], ["TABLE", "ABOVE", "TO", "FREQUENCY", "CUM.%"]
 
 
 class NoAnswer(Exception):
@@ -66,12 +71,30 @@ def rows(text):
             raise NoAnswer(f"a section with the heading `{heading}`")
         titles = [first, *SECTIONS[first]]
         cells = [line.split() for line in lines]
+        if first == "TABLE":
+            sections += tables(cells)
+            continue
         # a block without a label has one field fewer
         cells = [["", *row] if first == "LABEL" and len(row) == len(titles) - 1 else row for row in cells]
         if any(len(row) != len(titles) for row in cells):
             raise NoAnswer(f"a row of the section {first}")
         sections.append((titles, cells))
     return run.groups(), sections
+
+
+def tables(cells):
+    """The section of tables as two: a row of four fields begins a table, and its classes follow, five fields each. A
+    limit that is not there, `_`, is empty."""
+    of_tables, of_classes = [], []
+    for row in cells:
+        if len(row) == 4:
+            of_tables.append(row)
+        elif len(row) == 5 and row[1] == "-" and of_tables:
+            limits = ["" if it == "_" else it for it in (row[0], row[2])]
+            of_classes.append([of_tables[-1][0], *limits, *row[3:]])
+        else:
+            raise NoAnswer("a row of the section TABLE")
+    return [(TABLE, of_tables), (CLASS, of_classes)]
 
 
 def program():

@@ -3,9 +3,10 @@ ghost use Rattle.std.specs.Prelude.{◌≡◌, IfOk, OnOk, OnErr, Some, None, if
 ghost use Rattle.gw_meaning.specs.declared.item.Asked.TheVariants as asking;
 ghost use Rattle.gw_meaning.specs.declared.item.Item.TheVariants as items;
 ghost use Rattle.gw_asking.specs.Noted.{Asks, Tries};
-ghost use Rattle.gw_meaning.specs.Listing.{block_at, after_at, label_at, number_at, capacity_at, command_at, generates_in};
+ghost use Rattle.gw_meaning.specs.Listing.{argument_at, block_at, after_at, label_at, number_at, capacity_at, command_at, generates_in};
 
 use crate::notes::Notes;
+use gw_expr::Expr;
 use gw_meaning::{Asked, Block, Command, Item, StatementId, Transaction};
 use gw_model::Version;
 use gw_names::Name;
@@ -119,6 +120,20 @@ pub fn ask_capacity(version: &Version, notes: &mut Notes, name: &Name) -> Result
 {
     notes.note_asked(Asked::Storage, name)?;
     Ok(version.capacity(name))
+}
+
+/// What is the argument of the TABLE of this name?
+pub fn ask_argument<'a>(
+    version: &'a Version,
+    notes: &mut Notes,
+    name: &Name,
+) -> Result<Option<&'a Expr>, AllocError>
+    ensures answer { IfOk result (λ argument. option_copied argument ≡ argument_at version.now name.now) }
+    ensures ok { OnOk result (Asks notes.old (items.Named asking.Table name.now) notes.new) }
+    ensures err { OnErr result (notes.new ≡ notes.old) }
+{
+    notes.note_asked(Asked::Table, name)?;
+    Ok(version.argument(name))
 }
 
 /// Which blocks are GENERATEs?

@@ -11,8 +11,8 @@ mod halt;
 mod notes;
 
 pub use case::{
-    Case, ask_block, ask_capacity, ask_command, ask_fits, ask_generates, ask_label, ask_next,
-    ask_number, ask_within,
+    Case, ask_argument, ask_block, ask_capacity, ask_command, ask_fits, ask_generates, ask_label,
+    ask_next, ask_number, ask_within,
 };
 pub use draws::{draw, millionths, modifier_of, multiplied, sample};
 pub use halt::{Halt, Why};

@@ -14,7 +14,7 @@ use Rattle.gw_meaning.specs.Machine.{delay_at, waiting}
 use Rattle.gw_chains.specs.Chains.{Chain, delays_of}
 use Rattle.gw_chains.specs.Delays.{queues_of, AreKept}
 use Rattle.gw_chains.proofs.DelayLaws.{delay_is, one_more_waits, value_is, with_delay, written_is}
-use Rattle.gw_chains.proofs.Keyed.{no_key_beside, value_there, set_beside, zip_more, apart_beside, with_same}
+use Rattle.gw_entities.proofs.Keyed.{no_key_beside, value_there, set_beside, zip_more, apart_beside, with_same}
 
 abbrev Own : Type 0
 Own = Chain Transaction

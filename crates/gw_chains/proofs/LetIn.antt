@@ -12,7 +12,7 @@ use Rattle.gw_meaning.specs.Machine.{Machine, delay_at, waiting, AreInOrder}
 use Rattle.gw_meaning.specs.Changes.{let_in, some_let_in}
 use Rattle.gw_meaning.proofs.Chains.{AreNotAbove, IsOrdered, ordered, in_order}
 use Rattle.gw_chains.specs.Chains.{Chain, delays_of, IsWaitingPlace, has_share, with_share, without_share, IsWithin, AreWithin, HasRoomToLetAllIn, all_let_in}
-use Rattle.gw_chains.proofs.Keyed.{with_same, with_again}
+use Rattle.gw_entities.proofs.Keyed.{with_same, with_again}
 use Rattle.gw_chains.proofs.DelayLaws.{waiting_with}
 
 abbrev Shares : Type 0

@@ -7,5 +7,5 @@ pub mod BlockLaws
 pub mod Leasts
 pub mod FutureLaws
 pub mod Beside
-mod Keyed
 mod LinkedLaws
+pub mod AnewLaws

@@ -1,7 +1,7 @@
-ghost use Rattle.std.specs.Prelude.{◌≡◌, ◌<◌, ◌≤◌, [], All, IfOk, OnOk};
+ghost use Rattle.std.specs.Prelude.{◌≡◌, ◌<◌, ◌≤◌, [], map, All, IfOk, OnOk};
 ghost use Rattle.gw_meaning.specs.declared.moves.Arrival.{Arrival};
 ghost use Rattle.gw_meaning.specs.Machine.{count_at, raised};
-ghost use Rattle.gw_meaning.specs.Changes.{left, crossed, content_behind, made_one, stood};
+ghost use Rattle.gw_meaning.specs.Changes.{left, crossed, content_behind, count_anew, made_one, stood};
 
 use gw_meaning::{Arrival, Count, Fate, StatementId};
 use gw_table::Table;
@@ -131,6 +131,23 @@ impl Counts {
             ..count
         };
         self.table.set(id.number(), count);
+    }
+
+    /// No entry is counted any more, as behind a RESET. Who stands in a block stays there.
+    pub fn count_anew(&mut self)
+        ensures { self.new.entries ≡ map (λ c. (c.0, count_anew c.1)) self.old.entries }
+    {
+        for place in 0..self.table.len() {
+            if let Some((id, count)) = self.table.pair(place) {
+                self.table.set(
+                    id,
+                    Count {
+                        entries: 0,
+                        ..count
+                    },
+                );
+            }
+        }
     }
 
     /// A copy.

@@ -1,6 +1,6 @@
-ghost use Rattle.std.specs.Prelude.{◌≡◌, ◌+◌, ◌-◌, ◌<◌, ◌≤◌, ◌^◌, unwrap_or, [], length, option_copied, None, IfOk, OnOk, OnErr};
+ghost use Rattle.std.specs.Prelude.{◌≡◌, ◌+◌, ◌-◌, ◌<◌, ◌≤◌, ◌^◌, unwrap_or, [], length, map, option_copied, None, IfOk, OnOk, OnErr};
 ghost use Rattle.gw_entities.specs.Tables.{value_of, with_value, IsPlace};
-ghost use Rattle.gw_meaning.specs.Changes.{linked_to, some_unlinked};
+ghost use Rattle.gw_meaning.specs.Changes.{linked_to, some_unlinked, user_chain_anew};
 ghost use Rattle.gw_meaning.specs.Machine.{Machine, members_of, no_chain, user_chain_at, waiting};
 
 use crate::chain::PriorityChain;
@@ -156,6 +156,13 @@ impl UserChains {
         self.count -= gone;
     }
 
+    /// Nobody was linked, as far as is counted, as behind a RESET. Who is on a user chain stays there.
+    pub fn count_anew(&mut self)
+        ensures { self.new ≡ map (λ c. (c.0, user_chain_anew c.1)) self.old }
+    {
+        all_anew(&mut self.chains);
+    }
+
     /// Copies share from now on who is on them now. It holds the same, also where memory is refused.
     pub fn share(&mut self) -> Result<(), AllocError>
         ensures { self.new ≡ self.old }
@@ -174,6 +181,15 @@ impl UserChains {
             chains: copy_chains(*self.chains.allocator(), &self.chains)?,
             count: self.count,
         })
+    }
+}
+
+// Nobody was linked to these, as far as is counted.
+fn all_anew(chains: &mut Vec<UserChain>)
+    ensures { chains.new.items ≡ map user_chain_anew chains.old.items }
+{
+    for index in 0..chains.len() {
+        chains[index].count_anew();
     }
 }
 

@@ -1,5 +1,5 @@
 ghost use Rattle.std.specs.Prelude.{◌≡◌, [], length, drop, map, take, ◌==◌, ◌≤◌, ◌+◌, ◌^◌, ◌<◌, OnOk, OnErr, IfOk};
-ghost use Rattle.gw_meaning.specs.Changes.{all_lined_up, linked_to, sent};
+ghost use Rattle.gw_meaning.specs.Changes.{all_lined_up, linked_to, sent, user_chain_anew};
 ghost use Rattle.gw_meaning.specs.Machine.{no_chain};
 
 use crate::chain::PriorityChain;
@@ -62,6 +62,13 @@ impl UserChain {
         }
         self.entries = self.entries.saturating_add(1);
         Ok(())
+    }
+
+    // Nobody was linked, as far as is counted. Who is on it stays.
+    pub fn count_anew(&mut self)
+        ensures { self.new ≡ user_chain_anew self.old }
+    {
+        self.entries = 0;
     }
 
     // So many from the front go to a block: each comes onto the current chain behind its equals.

@@ -21,7 +21,7 @@ use Rattle.gw_meaning.specs.declared.statement.Body.{Body}
 use Rattle.gw_meaning.specs.declared.statement.Body.TheVariants as bodies
 use Rattle.gw_meaning.specs.declared.statement.Statement.{Statement}
 use Rattle.gw_meaning.specs.declared.statement.Numbered.{Numbered}
-use Rattle.gw_meaning.specs.Listing.{Listing, block_of_body, is_block, is_generate, is_generate_body, has_label, labelled_in, generates_in, capacity_in, command_of_body, defines, definition_if, definition_of, definition_of_body, first_said, is_command, number_of, expression_of, function_of, or_next, units_of}
+use Rattle.gw_meaning.specs.Listing.{Listing, block_of_body, is_block, is_generate, is_generate_body, has_label, labelled_in, generates_in, capacity_in, command_of_body, defines, definition_if, definition_of, definition_of_body, first_said, is_command, number_of, expression_of, function_of, argument_of, or_next, units_of}
 use Rattle.gw_meaning.specs.Questions.{Answer, ask}
 use Rattle.gw_meaning.specs.Reads.{is_use}
 use Rattle.gw_touch.specs.Same.{same_statement, same_label}
@@ -216,6 +216,7 @@ saying (asking.Fits units) = record { X = Bool; says = fitting units }
 saying asking.Storage = record { X = ℕ; says = units_of }
 saying asking.Variable = record { X = Term; says = expression_of }
 saying asking.Function = record { X = Function; says = function_of }
+saying asking.Table = record { X = Term; says = argument_of }
 saying asked = record { X = ℕ; says = λ d. None }
 
 -- two definitions say the same to an item
@@ -231,6 +232,7 @@ untouched_same (items.Named (asking.Fits units) name) label (definitions.Storage
 untouched_same (items.Named asking.Storage name) label (definitions.Storage capacity) h = inr (sym (and-true (bytes_eq label name)) ∙ h)
 untouched_same (items.Named asking.Variable name) label (definitions.Variable expression) h = inr (bytes_other name label h)
 untouched_same (items.Named asking.Function name) label (definitions.Function function) h = inr (bytes_other name label h)
+untouched_same (items.Named asking.Table name) label (definitions.Table table) h = inr (bytes_other name label h)
 untouched_same item label d h = inl refl
 
 module _ (name : List ℕ) where
@@ -350,6 +352,8 @@ by_lines (items.Named asking.Variable name) listed =
     by_name name expression_of refl (λ e. e) (λ t seed. refl) (untouched_same (items.Named asking.Variable name))
 by_lines (items.Named asking.Function name) listed =
     by_name name function_of refl (λ f. f) (λ t seed. refl) (untouched_same (items.Named asking.Function name))
+by_lines (items.Named asking.Table name) listed =
+    by_name name argument_of refl (λ a. a) (λ t seed. refl) (untouched_same (items.Named asking.Table name))
 by_lines item listed = record {
   X = Unit {0};
   says = λ line. None;

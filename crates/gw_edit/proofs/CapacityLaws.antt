@@ -56,6 +56,7 @@ gives name n (line ∷ lines) place h = go (defines name line) refl h (gives nam
   go (Some (definitions.Equ value)) is k rest = later (ap units_of is) (rest k)
   go (Some (definitions.Variable expression)) is k rest = later (ap units_of is) (rest k)
   go (Some (definitions.Function function)) is k rest = later (ap units_of is) (rest k)
+  go (Some (definitions.Table table)) is k rest = later (ap units_of is) (rest k)
   go (Some (definitions.Storage from)) is k rest = record {
     index = 0;
     at = (let same : n ≡ place = cc in omega (arith, same));

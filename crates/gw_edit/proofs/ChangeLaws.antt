@@ -12,8 +12,8 @@ use Rattle.gw_meaning.specs.Listing.{Listing, line_in, block_of, block_of_body, 
 use Rattle.gw_meaning.specs.Questions.{ask}
 use Rattle.gw_meaning.specs.Reads.{is_use}
 use Rattle.gw_model.proofs.Numbers.{other_way}
-use Rattle.gw_touch.specs.Same.{same_statement}
-use Rattle.gw_touch.specs.Touching.{lines_before, one_if, line_probes, change_slots, block_change, splice_probes, is_touched, one_name, other_change, same_number, same_expression, same_curve}
+use Rattle.gw_touch.specs.Same.{same_statement, same_first}
+use Rattle.gw_touch.specs.Touching.{lines_before, one_if, line_probes, change_slots, block_change, splice_probes, is_touched, one_name, other_change, same_number, same_expression, same_curve, same_argument}
 use Rattle.gw_touch.proofs.SameBlocks.{statement_same, term_same, function_same}
 use Rattle.gw_edit.proofs.Fronts.{block_in, block_behind, after_behind, commands_behind}
 use Rattle.gw_edit.proofs.ByLines.{untouched_both, probed_at, untouched_at, changed_line, change_parts, by_lines, changed_alike, IsListed, IsSameOf, IsSameTo, saying, said_same, bytes_other, generate_none, generate_of, no_generate_of, label_of}
@@ -24,6 +24,7 @@ use Rattle.std.proofs.lemmas.Slice.Eq.{bytes_eq-Decides}
 use Rattle.gw_uses.specs.Asks.{is_ask}
 use Rattle.gw_meaning.specs.declared.statement.Body.{Body}
 use Rattle.gw_expr.specs.declared.function.Function.{Function}
+use Rattle.gw_meaning.specs.declared.table.Table.{Table}
 use Rattle.gw_meaning.specs.declared.statement.Definition.{Definition}
 use Rattle.gw_meaning.specs.declared.statement.Definition.TheVariants as definitions
 use Rattle.gw_meaning.specs.declared.statement.Body.TheVariants as bodies
@@ -150,6 +151,13 @@ module _ (label : List ℕ) (old new : Statement) where
       (function_same x y) (bytes_other name label)
   curve_same item x y h = inl refl
 
+  argument_same : (i : Item) (x y : Table) → probed_at (one_if (not (same_argument old new x.argument y.argument)) (items.Named asking.Table label)) i ≡ false →
+      IsSameTo i label (Some (definitions.Table y)) (Some (definitions.Table x))
+  argument_same (items.Named asking.Table name) x y h =
+      alike_one (same_first old.operands new.operands) _ (items.Named asking.Table label) (items.Named asking.Table name) h
+      (term_same x.argument y.argument) (bytes_other name label)
+  argument_same item x y h = inl refl
+
 -- a version and the version with the other statement
 pub record IsChanged (t u : Listing) (place : ℕ) (line : Numbered) (s : Statement) (back : List Numbered) : Type 0 where
   pub old : t.lines ≡ lines_before t place ++ line ∷ back
@@ -236,6 +244,8 @@ module _ (t u : Listing) (place : ℕ) (line : Numbered) (s : Statement) (back :
         defined_alike name named _ _ was is i (expression_same name line.statement s i x y (untouched_at (_ ∷ []) 0 _ i refl h))
     other_alike absent (Some name) named (Some (definitions.Function x)) (Some (definitions.Function y)) was is i h =
         defined_alike name named _ _ was is i (curve_same name line.statement s i x y (untouched_at (_ ∷ []) 0 _ i refl h))
+    other_alike absent (Some name) named (Some (definitions.Table x)) (Some (definitions.Table y)) was is i h =
+        defined_alike name named _ _ was is i (argument_same name line.statement s i x y (untouched_at (_ ∷ []) 0 _ i refl h))
     other_alike absent name named before behind was is i h = kind_alike absent i h
 
     by_kinds : line_in (lines_before t place ++ back) line.number ≡ None → (was is : Bool) → is_block line ≡ was → is_block (changed_line line s) ≡ is →

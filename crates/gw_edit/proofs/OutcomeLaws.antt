@@ -67,6 +67,7 @@ units_there (Some (definitions.Storage units)) h = (units, refl)
 units_there (Some (definitions.Equ value)) h = absurd cc
 units_there (Some (definitions.Variable expression)) h = absurd cc
 units_there (Some (definitions.Function function)) h = absurd cc
+units_there (Some (definitions.Table table)) h = absurd cc
 
 is_named : (name : List ℕ) (s : Statement) → is_taken name s ≡ true → IsStorage name s
 is_named name s h =

@@ -21,7 +21,7 @@ itself : (n : ℕ) → nat_eq n n ≡ true
 itself n = grind (arith, nat_tests)
 
 -- one more is taken
-take_more : {A : Type 0} (xs : List A) (i : ℕ) (x : A) → slice_get xs i ≡ Some x → take (suc i) xs ≡ take i xs ++ x ∷ []
+pub take_more : {A : Type 0} (xs : List A) (i : ℕ) (x : A) → slice_get xs i ≡ Some x → take (suc i) xs ≡ take i xs ++ x ∷ []
 take_more [] i x at = absurd cc
 take_more {A = A} (y ∷ ys) zero x at = ap (λ (p : A). p ∷ take zero ys) (Some_same at) ∙ none ys where
   none : (zs : List A) → x ∷ take zero zs ≡ take zero (y ∷ ys) ++ x ∷ []

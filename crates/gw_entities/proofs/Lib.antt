@@ -1,9 +1,11 @@
+pub mod Anew
 pub mod Beside
 pub mod ComingLaws
 pub mod Entries
 pub mod Finding
 pub mod Inherited
 pub mod ItemLaws
+pub mod Keyed
 pub mod Lookups
 pub mod OwnLaws
 pub mod ParameterLaws

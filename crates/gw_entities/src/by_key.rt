@@ -1,10 +1,12 @@
-ghost use Rattle.std.specs.Prelude.{◌≡◌, [], length, None, slice_get};
+ghost use Rattle.std.specs.Prelude.{◌≡◌, [], length, map, None, slice_get};
 ghost use Rattle.std.specs.Prelude.{IfOk, OnOk, OnErr};
 ghost use Rattle.std.specs.Option.{option_map};
 ghost use Rattle.gw_entities.specs.Tables.{value_of, with_value, AreApart};
 
+use crate::counted::Counted;
 use crate::key_set::KeySet;
 use gw_names::Key;
+use gw_nums::Clock;
 use gw_shared::SharedList;
 use std::alloc::{AllocError, Global};
 use std::marker::Model;
@@ -118,4 +120,33 @@ impl<V: Copy> ByKey<V> {
             values: self.values.copy()?,
         })
     }
+}
+
+impl<V: Counted> ByKey<V> {
+    /// The same entities, each counted anew from a clock on.
+    pub fn anew(&self, alloc: Global, clock: Clock) -> Result<ByKey<V>, AllocError>
+        ensures { IfOk result (λ t. t ≡ map (λ e. (e.0, V.anew clock e.1)) self.now) }
+    {
+        let keys = self.keys.copy()?;
+        Ok(ByKey {
+            keys,
+            values: all_anew(alloc, &self.values, clock)?,
+        })
+    }
+}
+
+// These values, each counted anew.
+fn all_anew<V: Counted>(
+    alloc: Global,
+    values: &SharedList<V>,
+    clock: Clock,
+) -> Result<SharedList<V>, AllocError>
+    ensures { IfOk result (λ l. l.items ≡ map (λ v. V.anew clock v) values.now.items) }
+{
+    let mut anew = SharedList::new(alloc);
+    anew.reserve(values.len())?;
+    for index in 0..values.len() {
+        anew.push(values.at(index).anew(clock));
+    }
+    Ok(anew)
 }

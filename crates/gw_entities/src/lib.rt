@@ -8,6 +8,7 @@
 
 mod by_key;
 mod comings;
+mod counted;
 mod facility;
 mod key_set;
 mod laws;
@@ -16,9 +17,12 @@ mod own_list;
 mod parameters;
 mod queue;
 mod storage;
+mod tables;
+mod values;
 
 pub use by_key::ByKey;
 pub use comings::Comings;
+pub use counted::Counted;
 pub use facility::Facility;
 pub use key_set::KeySet;
 pub use laws::sum_is_over_ticks;
@@ -26,3 +30,5 @@ pub use level::Level;
 pub use parameters::Parameters;
 pub use queue::Queue;
 pub use storage::Storage;
+pub use tables::Tables;
+pub use values::Values;

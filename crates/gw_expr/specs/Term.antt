@@ -1,4 +1,4 @@
--- What an operand says, without where it lies in memory. (Manual; so far the values, the expressions, the names of
+-- What an operand says, without where it lies in memory. (Manual; the values, the expressions, the names of
 -- entities, the labels, the fractions, the names of definitions and the queue disciplines of the profile.)
 use Rattle.std.specs.Prelude.{ℕ, ◌≡◌, Bool, false, List, Some}
 use Rattle.std.specs.List.{list_any, slice_get}
@@ -10,7 +10,7 @@ use Rattle.gw_expr.specs.declared.expr.Node.{Node}
 use Rattle.gw_expr.specs.declared.expr.Node.TheVariants as node
 
 -- an operand: a single value, an expression, the name of an entity, a block's label, a fraction in millionths, the name
--- of a storage's definition, or a queue discipline; names and labels are in upper case
+-- of a storage's or of a table's definition, or a queue discipline; names and labels are in upper case
 pub data Term : Type 0 where
   Value : Atom → Term
   Computed : List Token → Term
@@ -18,6 +18,7 @@ pub data Term : Type 0 where
   Label : List ℕ → Term
   Fraction : ℕ → Term
   Defined : List ℕ → Term
+  Table : List ℕ → Term
   Order : Discipline → Term
 
 -- what a node says
@@ -28,6 +29,7 @@ term_of (node.Named name) = Named name
 term_of (node.Label name) = Label name
 term_of (node.Fraction millionths) = Fraction millionths
 term_of (node.Defined name) = Defined name
+term_of (node.Table name) = Table name
 term_of (node.Order discipline) = Order discipline
 
 -- whether a test holds of some value in an operand: the single one, or one in the expression

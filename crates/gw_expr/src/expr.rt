@@ -1,5 +1,5 @@
 ghost use Rattle.std.specs.Prelude.{◌≡◌, IfOk};
-ghost use Rattle.gw_expr.specs.Term.{Computed, Defined, Fraction, Label, Named, Order, Value, term_of};
+ghost use Rattle.gw_expr.specs.Term.{Computed, Defined, Fraction, Label, Named, Order, Table, Value, term_of};
 
 use crate::atom::Atom;
 use crate::token::Token;
@@ -29,6 +29,8 @@ pub enum Node {
     Fraction(u32),
     /// The name of a storage's definition.
     Defined(StorageName),
+    /// The name of a table's definition.
+    Table(Name),
     /// The order in which a user chain is served.
     Order(Discipline),
 }
@@ -105,6 +107,15 @@ impl Expr {
         }
     }
 
+    /// The operand that is the name of a table's definition.
+    pub fn table(name: Name) -> Expr
+        ensures { result ≡ Table name }
+    {
+        Expr {
+            node: Node::Table(name),
+        }
+    }
+
     /// The operand that is a queue discipline.
     pub fn order(discipline: Discipline) -> Expr
         ensures { result ≡ Order discipline }
@@ -132,6 +143,7 @@ impl Expr {
             Node::Label(name) => Ok(Expr::label(name.clone()?)),
             Node::Fraction(millionths) => Ok(Expr::fraction(*millionths)),
             Node::Defined(name) => Ok(Expr::defined(name.name().clone()?)),
+            Node::Table(name) => Ok(Expr::table(name.clone()?)),
             Node::Order(discipline) => Ok(Expr::order(*discipline)),
         }
     }

@@ -7,7 +7,7 @@ use Rattle.std.proofs.lemmas.Bool.Decides.{nat_tests}
 use Rattle.std.proofs.Math.Nat.{min-le_right}
 use Rattle.std.proofs.lemmas.List.{length-append}
 use Rattle.gw_nums.specs.Range.{is_negative, magnitude}
-use Rattle.gw_expr.specs.Term.{Term, Label, Fraction, Defined, Order}
+use Rattle.gw_expr.specs.Term.{Term, Label, Fraction, Defined, Table, Order}
 use Rattle.gw_streams.specs.declared.stream.Stream.{Stream}
 use Rattle.gw_meaning.specs.declared.asker.Asker.{Asker}
 use Rattle.gw_meaning.specs.declared.item.Item.{Item}
@@ -23,17 +23,18 @@ use Rattle.gw_meaning.specs.declared.statement.Numbered.{Numbered}
 use Rattle.gw_meaning.specs.declared.transaction.Transaction.{Transaction}
 use Rattle.gw_meaning.specs.declared.moves.Arrival.{Arrival}
 use Rattle.gw_meaning.specs.declared.moves.Move.{Move}
+use Rattle.gw_meaning.specs.declared.moves.Move.TheVariants as moves
 use Rattle.gw_meaning.specs.declared.moves.Change.TheVariants as changes
 use Rattle.gw_meaning.specs.declared.watched.Watched.{Watched}
 use Rattle.gw_meaning.specs.declared.watched.Watched.TheVariants as watched
-use Rattle.gw_meaning.specs.Listing.{Listing, capacity_at, block_at, label_at, generates_in, is_generate}
+use Rattle.gw_meaning.specs.Listing.{Listing, command_at, capacity_at, block_at, label_at, generates_in, is_generate}
 use Rattle.gw_meaning.specs.Numbers.{AreNumbered}
 use Rattle.gw_names.specs.declared.key.Key.{Key}
 use Rattle.gw_entities.specs.Comings.{came}
 use Rattle.gw_meaning.specs.Entities.{facility_at, line_at, savevalue_at}
 use Rattle.gw_meaning.specs.Machine.{Machine, raised, live, delay_at, user_chain_at}
 use Rattle.gw_meaning.specs.Questions.{ask, result_of}
-use Rattle.gw_meaning.specs.Evaluation.{Eval, asks, named, owned, millionths}
+use Rattle.gw_meaning.specs.Evaluation.{Eval, gives, asks, named, owned, millionths}
 use Rattle.gw_meaning.specs.Step.{for_none, for_one, arrival_at, arrival_in_time, arrival_prog, first_of_generate, first_of, first_arrival, with_arrival, prime_prog, arrivals_prog, first_arrivals_prog, start_prog, command_prog, generate_prog, delay_of, advance_prog, terminate_prog, is_too_many, queue_units, queue_prog, depart_units, depart_prog, seize_or_wait, seize_prog, first_number, is_owner, release_to, release_prog, go_to, lead_to, transfer_prog, priority_prog, block_prog, meet_prog, try_prog, attempt_prog, least_time, within_prog, clock_prog, pick_prog, scan_prog, move_prog, decide, step_prog}
 use Rattle.gw_expr.specs.Arithmetic.{applied}
 use Rattle.gw_expr.specs.declared.token.Operator.TheVariants as operators
@@ -41,7 +42,7 @@ use Rattle.gw_meaning.specs.declared.auxiliary.Auxiliary.{Auxiliary}
 use Rattle.gw_meaning.specs.declared.auxiliary.Auxiliary.TheVariants as auxiliaries
 use Rattle.gw_meaning.specs.declared.auxiliary.Condition.{Condition}
 use Rattle.gw_entities.specs.Parameters.{parameter_at}
-use Rattle.gw_meaning.specs.Step.{by_sign, assign_with, assign_prog, left_of, loop_back, loop_to, loop_prog, pass_or_wait, holds, test_prog, kind_of_condition, is_open, reads_capacity, gate_at, gate_storage, gate_other, gate_of, gate_prog, logic_prog, savevalue_with, savevalue_prog, split_to, split_count, split_prog, link_prog, unlink_to, unlink_count, leaving_prog, unlink_prog}
+use Rattle.gw_meaning.specs.Step.{by_sign, assign_with, assign_prog, left_of, loop_back, loop_to, loop_prog, pass_or_wait, holds, test_prog, kind_of_condition, is_open, reads_capacity, gate_at, gate_storage, gate_other, gate_of, gate_prog, logic_prog, savevalue_with, savevalue_prog, split_to, split_count, split_prog, link_prog, unlink_to, unlink_count, leaving_prog, unlink_prog, tabulate_with, tabulate_prog}
 use Rattle.gw_frame.specs.BlockIds.{IsBlockId, ActiveNames, TransactionNames}
 use Rattle.gw_frame.proofs.Generates.{IsBlockIn, generates_there}
 use Rattle.gw_frame.proofs.Labels.{label_there}
@@ -141,11 +142,14 @@ module _ (t : Listing) (seed : ℕ) (s : Machine) where
         (let h = (decides.from before).runs r is in (h.0, h.1, λ seven. (let k = h.2 seven in (k.seven, k.seed))));
   }
 
-  command_decides : (command : Option Command) (before : List Stream) → ProgKeeps t seed (IsStepped before) (command_prog s command before)
-  command_decides None before = prog_ends
-  command_decides (Some (commands.Start count)) before = steps before (start_prog s s.primed count) (start_decides s.primed count)
-  command_decides (Some (commands.Rmult values)) before =
+  command_decides : (command : Option Command) (before : List Stream) → s.remaining ≡ 0 → command_at t (raised s.commands) ≡ command →
+      ProgKeeps t seed (IsStepped before) (command_prog s command before)
+  command_decides None before idle next = prog_ends
+  command_decides (Some (commands.Start count)) before idle next = steps before (start_prog s s.primed count) (start_decides s.primed count)
+  command_decides (Some (commands.Rmult values)) before idle next =
       prog_gives (tt, tt, λ seven. (let set = set_first before values in (set.1 ∙ seven, set.0)))
+  command_decides (Some commands.Reset) before idle next = steps before (gives moves.Reset) (keeps_gives (record { idle = idle; next = next }))
+  command_decides (Some commands.Clear) before idle next = steps before (gives moves.Clear) (keeps_gives (record { idle = idle; next = next }))
 
   -- blocks
   generate_decides : (x : Transaction) (id : ℕ) (mean range limit priority : Option Term) → IsBlockId t id →
@@ -442,6 +446,17 @@ module _ (t : Listing) (seed : ℕ) (s : Machine) where
       (λ key h. keeps_bind (leaving_decides q count (length (user_chain_at s.linked key).members))
       (λ n there. unlink_count_decides id key label n there named))
 
+  -- TABULATE
+  tabulate_with_decides : (q : Asker) (id : ℕ) (key : Key) (argument : Option Term) → IsBlockId t id →
+      Decides t seed s (IsDecided t s) (tabulate_with s q id key argument)
+  tabulate_with_decides q id key argument named = keeps_bind (value_there_decides t seed s q argument) (λ v h. keeps_gives (named, tt, tt))
+
+  tabulate_decides : (q : Asker) (id : ℕ) (table : Option Term) → IsBlockId t id → Decides t seed s (IsDecided t s) (tabulate_prog s q id table)
+  tabulate_decides q id (Some (Table name)) named = keeps_asks (items.Named asking.Table name) refl (λ numbered there. tt)
+      (tabulate_with_decides q id (keys.Defined name) (ask t seed (items.Named asking.Table name)) named)
+  tabulate_decides q id (Some term) named = keeps_ends
+  tabulate_decides q id None named = keeps_ends
+
   block_decides : (x : Transaction) (id : ℕ) (b : Block) (verb : BlockVerb) → s.active ≡ Some x → IsBlockId t id →
       Decides t seed s (IsDecided t s) (block_prog s x id b verb)
   block_decides x id b blocks.Generate is named = generate_decides x id (operand b A) (operand b B) (operand b D) (operand b E) named
@@ -461,12 +476,12 @@ module _ (t : Listing) (seed : ℕ) (s : Machine) where
   block_decides x id b blocks.Split is named = split_decides (for_one s x) id (operand b A) (operand b B) named
   block_decides x id b blocks.Link is named = link_decides (for_one s x) id (operand b A) (operand b B) named
   block_decides x id b blocks.Unlink is named = unlink_decides (for_one s x) id (operand b A) (operand b B) (operand b C) named
+  block_decides x id b blocks.Tabulate is named = tabulate_decides (for_one s x) id (operand b A) named
   block_decides x id b blocks.Mark is named = keeps_gives (named, tt, tt)
   block_decides x id b blocks.Priority is named = priority_decides (for_one s x) id (operand b A) named
   block_decides x id b blocks.Buffer is named = keeps_gives (named, tt, refl)
   block_decides x id b blocks.Assign is named = assign_decides (for_one s x) id b.auxiliary (operand b A) (operand b B) named
   block_decides x id b blocks.Loop is named = loop_decides (for_one s x) id (operand b A) (operand b B) named
-  block_decides x id b verb is named = keeps_ends
 
   -- attempts: an id that is no block ends the run
   try_block : (x : Transaction) (id : ℕ) (block : Option Block) → s.active ≡ Some x → block_at t id ≡ block →
@@ -508,16 +523,16 @@ module _ (t : Listing) (seed : ℕ) (s : Machine) where
   scan_decides None is = pick_decides s.current is
   scan_decides (Some x) is = attempt_decides x x.destination is
 
-  move_decides : (remaining : ℕ) (before : List Stream) → ProgKeeps t seed (IsStepped before) (move_prog s remaining before)
-  move_decides zero before = record {
+  move_decides : (remaining : ℕ) (before : List Stream) → s.remaining ≡ remaining → ProgKeeps t seed (IsStepped before) (move_prog s remaining before)
+  move_decides zero before idle = record {
     runs = λ r is.
-        (let h = (command_decides (ask t seed (items.Cmd (raised s.commands))) before).runs r is in (h.0, ((λ numbered named. tt), h.1), h.2));
+        (let h = (command_decides (command_at t (raised s.commands)) before idle refl).runs r is in (h.0, ((λ numbered named. tt), h.1), h.2));
   }
-  move_decides (suc n) before = steps before (scan_prog s s.active) (scan_decides s.active refl)
+  move_decides (suc n) before some = steps before (scan_prog s s.active) (scan_decides s.active refl)
 
   -- the move of a step, from any streams
   pub move_is_decided : (before : List Stream) (d : Move × List Stream) → result_of t seed (move_prog s s.remaining before) ≡ Ok d → IsDecided t s d.0
-  move_is_decided before d is = ((move_decides s.remaining before).runs d is).0
+  move_is_decided before d is = ((move_decides s.remaining before refl).runs d is).0
 
   -- the decision
   pub is_decided : (d : Move × List Stream) → result_of t seed (decide s) ≡ Ok d → IsDecided t s d.0
@@ -525,5 +540,5 @@ module _ (t : Listing) (seed : ℕ) (s : Machine) where
 
   -- the step
   pub step_decides : ProgKeeps t seed (λ v is. IsAfter t s v × AllByRecursion (IsRead t s) is × ReadsSeed s.streams v.streams is) (step_prog s)
-  step_decides = prog_bind (move_decides s.remaining s.streams)
+  step_decides = prog_bind (move_decides s.remaining s.streams refl)
       (λ d is h. prog_gives (record { move = d.0; streams = d.1; is_decided = h.0; is = refl }, rw append-nil h.1, rw append-nil h.2))

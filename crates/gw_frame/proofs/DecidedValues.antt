@@ -20,10 +20,10 @@ use Rattle.gw_meaning.specs.declared.item.Asked.TheVariants as asking
 use Rattle.gw_meaning.specs.declared.item.Item.TheVariants as items
 use Rattle.gw_meaning.specs.Listing.{Listing, capacity_at, label_at}
 use Rattle.gw_names.specs.declared.key.Key.{Key}
-use Rattle.gw_meaning.specs.Entities.{facility_at, line_at, switch_at}
+use Rattle.gw_meaning.specs.Entities.{facility_at, line_at, switch_at, table_at}
 use Rattle.gw_entities.specs.Parameters.{parameter_at}
 use Rattle.gw_meaning.specs.Machine.{Machine, count_at, user_chain_at}
-use Rattle.gw_meaning.specs.Evaluation.{Eval, number_of_draw, draw, amount, numbered, named, subject_prog, storage_prog, counted, block_count, random_prog, random_part, own_value, value_held, parameter_value, entity_value, storage_value, block_value, owned, one_if, attribute_prog, arithmetic, value_prog, value_there, value_or_zero, entity_prog, units_prog, in_range, spread, sample_within, time_prog, left_prog, modifier_of, time_by, drawn_prog, reply_prog, evaluated, entity_watched, storage_watched, counts_of, counts_watched, watched_prog, watched_by, traced, value_traced, entity_traced}
+use Rattle.gw_meaning.specs.Evaluation.{Eval, number_of_draw, draw, amount, numbered, named, subject_prog, defined_prog, counted, block_count, random_prog, random_part, own_value, value_held, parameter_value, entity_value, storage_value, table_value, block_value, owned, one_if, attribute_prog, arithmetic, value_prog, value_there, value_or_zero, entity_prog, units_prog, in_range, spread, sample_within, time_prog, left_prog, modifier_of, time_by, drawn_prog, reply_prog, evaluated, entity_watched, defined_watched, counts_of, counts_watched, watched_prog, watched_by, traced, value_traced, entity_traced}
 use Rattle.gw_frame.proofs.Seeds.{uses_seed, one_drew}
 use Rattle.gw_frame.proofs.Keeps.{ProgKeeps, Keeps, prog_gives, prog_bind, keeps_gives, keeps_ends, keeps_asks, keeps_cond, keeps_stops, keeps_unless, keeps_bind, all_with}
 use Rattle.gw_names.specs.declared.key.Key.TheVariants as keys
@@ -84,10 +84,10 @@ module _ (t : Listing) (seed : ℕ) (s : Machine) where
   subject_decides (subjects.Number n) = numbered_decides (pos n)
   subject_decides (subjects.Name name) = keeps_asks (items.Named asking.Number name) refl (λ numbered named. tt) (named_decides name (number_at t name))
 
-  storage_decides : (of : Subject) (f : Key → Eval ℤ) → ((key : Key) → Decides Whatever (f key)) → Decides Whatever (storage_prog of f)
-  storage_decides subjects.Own f each = keeps_ends
-  storage_decides (subjects.Number n) f each = keeps_ends
-  storage_decides (subjects.Name name) f each = each (keys.Defined name)
+  defined_decides : (of : Subject) (f : Key → Eval ℤ) → ((key : Key) → Decides Whatever (f key)) → Decides Whatever (defined_prog of f)
+  defined_decides subjects.Own f each = keeps_ends
+  defined_decides (subjects.Number n) f each = keeps_ends
+  defined_decides (subjects.Name name) f each = each (keys.Defined name)
 
   left_decides : (of : Subject) → Decides Whatever (left_prog s of)
   left_decides subjects.Own = keeps_ends
@@ -153,6 +153,9 @@ module _ (t : Listing) (seed : ℕ) (s : Machine) where
   storage_value_decides class.Sm key = amount_decides (store_at s.entities key).greatest
   storage_value_decides class key = keeps_ends
 
+  table_value_decides : (key : Key) → Decides Whatever (table_value s key)
+  table_value_decides key = amount_decides (length (table_at s.entities key))
+
   block_value_decides : (class : Class) (id : ℕ) → Decides Whatever (block_value s class id)
   block_value_decides class.N id = amount_decides (count_at s.counts id).entries
   block_value_decides class.W id = amount_decides (count_at s.counts id).content
@@ -177,10 +180,11 @@ module _ (t : Listing) (seed : ℕ) (s : Machine) where
   attribute_decides q class.Ls of = keeps_bind (subject_decides of) (λ key h. entity_value_decides class.Ls key)
   attribute_decides q class.Ch of = keeps_bind (subject_decides of) (λ key h. entity_value_decides class.Ch key)
   attribute_decides q class.Cc of = keeps_bind (subject_decides of) (λ key h. entity_value_decides class.Cc key)
-  attribute_decides q class.S of = storage_decides of _ (storage_value_decides class.S)
+  attribute_decides q class.S of = defined_decides of _ (storage_value_decides class.S)
   attribute_decides q class.R of = left_decides of
-  attribute_decides q class.Sc of = storage_decides of _ (storage_value_decides class.Sc)
-  attribute_decides q class.Sm of = storage_decides of _ (storage_value_decides class.Sm)
+  attribute_decides q class.Sc of = defined_decides of _ (storage_value_decides class.Sc)
+  attribute_decides q class.Sm of = defined_decides of _ (storage_value_decides class.Sm)
+  attribute_decides q class.Tc of = defined_decides of _ table_value_decides
   attribute_decides q class.N of = block_count_decides of _ (block_value_decides class.N)
   attribute_decides q class.W of = block_count_decides of _ (block_value_decides class.W)
   attribute_decides q class.Rn of = random_decides of
@@ -245,10 +249,10 @@ module _ (t : Listing) (seed : ℕ) (s : Machine) where
   entity_watched_decides : (kind : EntityKind) (of : Subject) → Decides (AreWatched t) (entity_watched kind of)
   entity_watched_decides kind of = keeps_bind (subject_decides of) (λ key h. keeps_gives (λ numbered. (tt, tt)))
 
-  storage_watched_decides : (of : Subject) → Decides (AreWatched t) (storage_watched of)
-  storage_watched_decides subjects.Own = keeps_gives (λ numbered. tt)
-  storage_watched_decides (subjects.Number n) = keeps_gives (λ numbered. tt)
-  storage_watched_decides (subjects.Name name) = keeps_gives (λ numbered. (tt, tt))
+  defined_watched_decides : (kind : EntityKind) (of : Subject) → Decides (AreWatched t) (defined_watched kind of)
+  defined_watched_decides kind subjects.Own = keeps_gives (λ numbered. tt)
+  defined_watched_decides kind (subjects.Number n) = keeps_gives (λ numbered. tt)
+  defined_watched_decides kind (subjects.Name name) = keeps_gives (λ numbered. (tt, tt))
 
   counts_there : (name : List ℕ) (id : Option ℕ) → label_at t name ≡ id → AreWatched t (counts_of id)
   counts_there name None is = λ numbered. tt
@@ -272,10 +276,11 @@ module _ (t : Listing) (seed : ℕ) (s : Machine) where
   watched_decides class.Ls of = entity_watched_decides kinds.Switch of
   watched_decides class.Ch of = entity_watched_decides kinds.UserChain of
   watched_decides class.Cc of = entity_watched_decides kinds.UserChain of
-  watched_decides class.S of = storage_watched_decides of
-  watched_decides class.R of = storage_watched_decides of
-  watched_decides class.Sc of = storage_watched_decides of
-  watched_decides class.Sm of = storage_watched_decides of
+  watched_decides class.S of = defined_watched_decides kinds.Storage of
+  watched_decides class.R of = defined_watched_decides kinds.Storage of
+  watched_decides class.Sc of = defined_watched_decides kinds.Storage of
+  watched_decides class.Sm of = defined_watched_decides kinds.Storage of
+  watched_decides class.Tc of = defined_watched_decides kinds.Table of
   watched_decides class.N of = counts_watched_decides of
   watched_decides class.W of = counts_watched_decides of
   watched_decides class of = keeps_gives (λ numbered. tt)

@@ -25,12 +25,14 @@ use Rattle.gw_meaning.specs.Numbers.{AreNumbered}
 use Rattle.gw_names.specs.declared.key.Key.{Key}
 use Rattle.gw_entities.specs.Records.{Line}
 use Rattle.gw_meaning.specs.Entities.{facility_at, line_at}
-use Rattle.gw_meaning.specs.Machine.{Machine, live, delay_at, user_chain_at}
+use Rattle.gw_meaning.specs.Machine.{Machine, raised, live, delay_at, user_chain_at}
 use Rattle.gw_meaning.specs.Changes.{decided}
 use Rattle.gw_meaning.specs.Step.{is_too_many, first_number, is_owner, least_time}
 use Rattle.gw_frame.specs.BlockIds.{IsBlockId, IsIdIfAny, WatchedNames, ActiveNames, ItemNames}
 use Rattle.gw_names.specs.declared.key.Key.TheVariants as keys
-use Rattle.gw_meaning.specs.Listing.{capacity_at}
+use Rattle.gw_meaning.specs.Listing.{capacity_at, command_at}
+use Rattle.gw_meaning.specs.declared.statement.Command.{Command}
+use Rattle.gw_meaning.specs.declared.statement.Command.TheVariants as commands
 use Rattle.gw_meaning.specs.Entities.{store_at}
 use Rattle.gw_meaning.specs.Step.{beside, in_use, share_of, all_shares}
 
@@ -153,9 +155,16 @@ IsRefused t s key units = is_some (facility_at s.entities key).owner ≡ true
 abbrev pub AreWatched : Listing → List Watched → Type 0
 AreWatched t read = AreNumbered t.lines → AllByRecursion (WatchedNames t) read
 
+-- a command is done where no START is under way
+pub record IsNext (t : Listing) (s : Machine) (command : Command) : Type 0 where
+  pub idle : s.remaining ≡ 0
+  pub next : command_at t (raised s.commands) ≡ Some command
+
 abbrev pub IsDecided : Listing → Machine → Move → Type 0
 IsDecided t s (moves.Start count arrivals) = AreFirst t s arrivals
 IsDecided t s moves.Command = Unit {0}
+IsDecided t s moves.Reset = IsNext t s commands.Reset
+IsDecided t s moves.Clear = IsNext t s commands.Clear
 IsDecided t s (moves.Enter id change fate) = IsBlockId t id × IsDecidedChange t s change × IsDecidedFate s change fate
 IsDecided t s (moves.Refuse id key units) = IsBlockId t id × IsRefused t s key units
 IsDecided t s (moves.Watch read) = AreWatched t read

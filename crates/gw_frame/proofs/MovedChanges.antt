@@ -7,6 +7,7 @@ use Rattle.gw_entities.specs.Tables.{with_value}
 use Rattle.gw_entities.specs.Parameters.{Held, values_at}
 use Rattle.gw_meaning.specs.declared.entity_change.Deed.{Deed}
 use Rattle.gw_meaning.specs.declared.moves.Arrival.{Arrival}
+use Rattle.gw_meaning.specs.declared.transaction.Count.{Count}
 use Rattle.gw_streams.specs.declared.stream.Stream.{Stream}
 use Rattle.gw_meaning.specs.declared.moves.Change.{Change}
 use Rattle.gw_meaning.specs.declared.moves.Change.TheVariants as changes
@@ -21,7 +22,7 @@ use Rattle.gw_meaning.specs.declared.watched.Watched.TheVariants as watched
 use Rattle.gw_meaning.specs.Watching.{kind_of}
 use Rattle.gw_meaning.specs.Entities.{Entities, touched}
 use Rattle.gw_meaning.specs.Machine.{Machine, UserChain, raised, delay_at, user_chain_at}
-use Rattle.gw_meaning.specs.Changes.{crossed, due, Making, making, made, maybe_made, all_made, making_of, with_making, newcomer, placed, started, arrived, lined_up, own_marked, marked, own_held, held_by, linked_to, fated, let_in, one_let_in, some_let_in, deed_shares, admitted, copied, one_copied, all_copied, sent, one_unlinked, some_unlinked, changed, entering, bound, refused, watching, picked, advanced, with_active, moved, crossings, written_by, written_in, written_where, written, woken, decided}
+use Rattle.gw_meaning.specs.Changes.{crossed, due, Making, making, made, maybe_made, all_made, making_of, with_making, newcomer, placed, started, arrived, lined_up, own_marked, marked, own_held, held_by, linked_to, fated, let_in, one_let_in, some_let_in, deed_shares, admitted, copied, one_copied, all_copied, sent, one_unlinked, some_unlinked, changed, entering, bound, refused, watching, picked, advanced, count_anew, user_chain_anew, reset, with_active, moved, crossings, written_by, written_in, written_where, written, woken, decided}
 use Rattle.gw_frame.specs.Moved.{IsMove, moved_transaction, moved_event, moved_count, moved_watched, moved_waiter, moved_linked, moved_machine}
 use Rattle.gw_frame.proofs.MovedLists.{made_one_moved, stood_moved, crossed_moved, lined_up_moved, all_lined_up_moved, due_moved, later_moved}
 use Rattle.gw_frame.proofs.Delays.{delay_at_moved, with_delay_moved}
@@ -48,6 +49,8 @@ module _ (move : ℕ → ℕ) where
   abbrev pub moved_move : Move → Move
   moved_move (moves.Start count arrivals) = moves.Start count (map moved_arrival arrivals)
   moved_move moves.Command = moves.Command
+  moved_move moves.Reset = moves.Reset
+  moved_move moves.Clear = moves.Clear
   moved_move (moves.Enter id change fate) = moves.Enter (move id) (moved_change change) fate
   moved_move (moves.Refuse id key units) = moves.Refuse (move id) key units
   moved_move (moves.Watch read) = moves.Watch (map (moved_watched move) read)
@@ -257,9 +260,22 @@ module _ (move : ℕ → ℕ) (is : IsMove move) where
   with_active_moved s None f g each = refl
   with_active_moved s (Some x) f g each = each x
 
+  -- a RESET, which changes no id
+  maps_swap : {X : Type 0} (f g : X → X) → ((x : X) → f (g x) ≡ g (f x)) → (xs : List X) → map f (map g xs) ≡ map g (map f xs)
+  maps_swap f g same [] = refl
+  maps_swap f g same (x ∷ xs) = ap₂ (λ y ys. y ∷ ys) (same x) (maps_swap f g same xs)
+
+  reset_moved : (s : Machine) → reset (moved_machine move s) ≡ moved_machine move (reset s)
+  reset_moved s =
+      let linked = maps_swap (λ (c : Key × UserChain). (c.0, user_chain_anew c.1)) (moved_linked move) (λ c. refl) s.linked in
+      let counts = maps_swap (λ (c : ℕ × Count). (c.0, count_anew c.1)) (moved_count move) (λ c. refl) s.counts in
+      rw (linked, counts) refl
+
   moved_moved : (s : Machine) (m : Move) → moved (moved_machine move s) (moved_move move m) ≡ moved_machine move (moved s m)
   moved_moved s (moves.Start count arrivals) = started_moved s count arrivals
   moved_moved s moves.Command = refl
+  moved_moved s moves.Reset = reset_moved s
+  moved_moved s moves.Clear = refl
   moved_moved s (moves.Enter id change fate) = with_active_moved s s.active _ _ (λ x. entering_moved s x id change fate)
   moved_moved s (moves.Refuse id key units) = with_active_moved s s.active _ _ (λ x. refused_moved s x id key units)
   moved_moved s (moves.Watch read) = with_active_moved s s.active _ _ (λ x. watching_moved s x read)
@@ -299,6 +315,8 @@ module _ (move : ℕ → ℕ) (is : IsMove move) where
   written_moved s (moves.Enter id change fate) = written_where_moved s.active id change fate s
   written_moved s (moves.Start count arrivals) = refl
   written_moved s moves.Command = refl
+  written_moved s moves.Reset = refl
+  written_moved s moves.Clear = refl
   written_moved s (moves.Refuse id key units) = refl
   written_moved s (moves.Watch read) = refl
   written_moved s moves.Pick = refl

@@ -2,7 +2,7 @@
 use Rattle.std.proofs.Common.{◌≡◌, ℕ, zero, suc, nat_eq, nat_le, nat_lt, ◌+◌, Bool, true, false, cond, not, ◌&&◌, ◌||◌, List, [], ◌∷◌, ◌++◌, ◌-◌, map, length, Option, Some, None, is_some, option_map, ℤ, pos, refl, ap, sym, ◌∙◌}
 use Rattle.std.proofs.lemmas.List.{map-append, length-map}
 use Rattle.gw_nums.specs.Range.{is_negative, magnitude}
-use Rattle.gw_expr.specs.Term.{Term, Label, Fraction, Defined, Order}
+use Rattle.gw_expr.specs.Term.{Term, Label, Fraction, Defined, Table, Order}
 use Rattle.gw_meaning.specs.declared.asker.Asker.{Asker}
 use Rattle.gw_meaning.specs.declared.item.Asked.TheVariants as asking
 use Rattle.gw_meaning.specs.declared.item.Item.TheVariants as items
@@ -32,7 +32,7 @@ use Rattle.gw_meaning.specs.declared.auxiliary.Auxiliary.TheVariants as auxiliar
 use Rattle.gw_meaning.specs.declared.auxiliary.Condition.{Condition}
 use Rattle.gw_meaning.specs.declared.auxiliary.Condition.TheVariants as conditions
 use Rattle.gw_entities.specs.Parameters.{parameter_at}
-use Rattle.gw_meaning.specs.Step.{by_sign, assign_with, assign_prog, left_of, loop_back, loop_to, loop_prog, pass_or_wait, holds, test_prog, kind_of_condition, is_open, reads_capacity, gate_at, gate_storage, gate_other, gate_of, gate_prog, logic_prog, savevalue_with, savevalue_prog, split_to, split_count, split_prog, link_prog, unlink_to, unlink_count, leaving_prog, unlink_prog}
+use Rattle.gw_meaning.specs.Step.{by_sign, assign_with, assign_prog, left_of, loop_back, loop_to, loop_prog, pass_or_wait, holds, test_prog, kind_of_condition, is_open, reads_capacity, gate_at, gate_storage, gate_other, gate_of, gate_prog, logic_prog, savevalue_with, savevalue_prog, split_to, split_count, split_prog, link_prog, unlink_to, unlink_count, leaving_prog, unlink_prog, tabulate_with, tabulate_prog}
 use Rattle.gw_frame.specs.Moved.{IsMove, moved_transaction, moved_event, moved_watched, moved_waiter, moved_machine}
 use Rattle.gw_frame.proofs.Follows.{ProgFollows, prog_gives, prog_bind, Follows, follows_gives, follows_ends, follows_asks, follows_cond, follows_stops, follows_bind}
 use Rattle.gw_frame.proofs.MovedValues.{same, draw_follows, arithmetic_follows, value_follows, value_there_follows, value_or_zero_follows, entity_follows, units_follows, time_follows, value_traced_follows, entity_traced_follows}
@@ -135,6 +135,8 @@ module _ (move : ℕ → ℕ) (is : IsMove move) where
   command_follows s None = follows_ends
   command_follows s (Some (commands.Start count)) = start_follows s s.primed count
   command_follows s (Some (commands.Rmult values)) = record { from = λ streams. prog_gives refl }
+  command_follows s (Some commands.Reset) = follows_gives refl
+  command_follows s (Some commands.Clear) = follows_gives refl
 
   -- blocks
   generate_follows : (s : Machine) (x : Transaction) (id : ℕ) (mean range limit priority : Option Term) →
@@ -422,6 +424,18 @@ module _ (move : ℕ → ℕ) (is : IsMove move) where
       (λ key. rw (content_moved move s.linked key)
       (follows_bind _ (leaving_follows s q count (length (user_chain_at s.linked key).members)) (λ n. unlink_count_follows id key label n)))
 
+  -- TABULATE
+  tabulate_with_follows : (s : Machine) (q : Asker) (id : ℕ) (key : Key) (argument : Option Term) →
+      Follows move (moved_move move) (tabulate_with s q id key argument) (tabulate_with (moved_machine move s) q (move id) key argument)
+  tabulate_with_follows s q id key argument = follows_bind _ (value_there_follows move is s q argument) (λ v. follows_gives refl)
+
+  tabulate_follows : (s : Machine) (q : Asker) (id : ℕ) (table : Option Term) →
+      Follows move (moved_move move) (tabulate_prog s q id table) (tabulate_prog (moved_machine move s) q (move id) table)
+  tabulate_follows s q id (Some (Table name)) =
+      follows_asks (items.Named asking.Table name) (tabulate_with_follows s q id (keys.Defined name))
+  tabulate_follows s q id (Some term) = follows_ends
+  tabulate_follows s q id None = follows_ends
+
   block_follows : (s : Machine) (x : Transaction) (id : ℕ) (b : Block) (verb : BlockVerb) →
       Follows move (moved_move move) (block_prog s x id b verb) (block_prog (moved_machine move s) (moved_transaction move x) (move id) b verb)
   block_follows s x id b blocks.Generate = generate_follows s x id (operand b A) (operand b B) (operand b D) (operand b E)
@@ -441,12 +455,12 @@ module _ (move : ℕ → ℕ) (is : IsMove move) where
   block_follows s x id b blocks.Split = split_follows s (for_one s x) id (operand b A) (operand b B)
   block_follows s x id b blocks.Link = link_follows s (for_one s x) id (operand b A) (operand b B)
   block_follows s x id b blocks.Unlink = unlink_follows s (for_one s x) id (operand b A) (operand b B) (operand b C)
+  block_follows s x id b blocks.Tabulate = tabulate_follows s (for_one s x) id (operand b A)
   block_follows s x id b blocks.Mark = follows_gives refl
   block_follows s x id b blocks.Priority = priority_follows s (for_one s x) id (operand b A)
   block_follows s x id b blocks.Buffer = follows_gives refl
   block_follows s x id b blocks.Assign = assign_follows s (for_one s x) id b.auxiliary (operand b A) (operand b B)
   block_follows s x id b blocks.Loop = loop_follows s (for_one s x) id (operand b A) (operand b B)
-  block_follows s x id b verb = follows_ends
 
   meet_follows : (s : Machine) (x : Transaction) (id : ℕ) (block : Option Block) →
       Follows move (moved_move move) (meet_prog s x id block) (meet_prog (moved_machine move s) (moved_transaction move x) (move id) block)

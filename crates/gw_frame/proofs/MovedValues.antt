@@ -18,13 +18,13 @@ use Rattle.gw_meaning.specs.declared.item.Asked.TheVariants as asking
 use Rattle.gw_meaning.specs.declared.item.Item.TheVariants as items
 use Rattle.gw_names.specs.declared.key.Key.{Key}
 use Rattle.gw_names.specs.declared.key.Key.TheVariants as keys
-use Rattle.gw_meaning.specs.Entities.{facility_at, line_at, store_at, switch_at}
+use Rattle.gw_meaning.specs.Entities.{facility_at, line_at, store_at, switch_at, table_at}
 use Rattle.gw_entities.specs.Parameters.{parameter_at}
 use Rattle.gw_meaning.specs.declared.watched.EntityKind.{EntityKind}
 use Rattle.gw_meaning.specs.declared.watched.EntityKind.TheVariants as kinds
 use Rattle.gw_meaning.specs.declared.watched.Watched.{Watched}
 use Rattle.gw_meaning.specs.Machine.{Machine, count_at, user_chain_at}
-use Rattle.gw_meaning.specs.Evaluation.{Eval, number_of_draw, draw, amount, numbered, named, subject_prog, storage_prog, counted, block_count, random_prog, random_part, own_value, value_held, parameter_value, entity_value, storage_value, block_value, owned, one_if, attribute_prog, arithmetic, value_prog, value_there, value_or_zero, entity_prog, units_prog, in_range, spread, sample_within, time_prog, left_prog, modifier_of, time_by, drawn_prog, reply_prog, evaluated, entity_watched, storage_watched, counts_watched, watched_prog, watched_by, traced, value_traced, entity_traced}
+use Rattle.gw_meaning.specs.Evaluation.{Eval, number_of_draw, draw, amount, numbered, named, subject_prog, defined_prog, counted, block_count, random_prog, random_part, own_value, value_held, parameter_value, entity_value, storage_value, table_value, block_value, owned, one_if, attribute_prog, arithmetic, value_prog, value_there, value_or_zero, entity_prog, units_prog, in_range, spread, sample_within, time_prog, left_prog, modifier_of, time_by, drawn_prog, reply_prog, evaluated, entity_watched, defined_watched, counts_watched, watched_prog, watched_by, traced, value_traced, entity_traced}
 use Rattle.gw_frame.specs.Moved.{IsMove, moved_watched, moved_machine}
 use Rattle.gw_frame.proofs.Follows.{ProgFollows, prog_gives, prog_asks, prog_bind, Follows, follows_gives, follows_ends, follows_asks, follows_cond, follows_stops, follows_bind}
 use Rattle.gw_frame.proofs.MovedLists.{count_at_moved}
@@ -63,11 +63,11 @@ module _ (move : ℕ → ℕ) (is : IsMove move) where
   subject_follows (subjects.Number n) = numbered_follows (pos n)
   subject_follows (subjects.Name name) = follows_asks (items.Named asking.Number name) (named_follows name)
 
-  storage_follows : (of : Subject) (f : Key → Eval ℤ) → ((key : Key) → Follows move same (f key) (f key)) →
-      Follows move same (storage_prog of f) (storage_prog of f)
-  storage_follows subjects.Own f each = follows_ends
-  storage_follows (subjects.Number n) f each = follows_ends
-  storage_follows (subjects.Name name) f each = each (keys.Defined name)
+  defined_follows : (of : Subject) (f : Key → Eval ℤ) → ((key : Key) → Follows move same (f key) (f key)) →
+      Follows move same (defined_prog of f) (defined_prog of f)
+  defined_follows subjects.Own f each = follows_ends
+  defined_follows (subjects.Number n) f each = follows_ends
+  defined_follows (subjects.Name name) f each = each (keys.Defined name)
 
   left_follows : (s : Machine) (of : Subject) → Follows move same (left_prog s of) (left_prog (moved_machine move s) of)
   left_follows s subjects.Own = follows_ends
@@ -135,6 +135,9 @@ module _ (move : ℕ → ℕ) (is : IsMove move) where
   storage_value_follows s class.Sm key = amount_follows (store_at s.entities key).greatest
   storage_value_follows s class key = follows_ends
 
+  table_value_follows : (s : Machine) (key : Key) → Follows move same (table_value s key) (table_value (moved_machine move s) key)
+  table_value_follows s key = amount_follows (length (table_at s.entities key))
+
   block_value_follows : (s : Machine) (class : Class) (id : ℕ) →
       Follows move same (block_value s class id) (block_value (moved_machine move s) class (move id))
   block_value_follows s class.N id = rw (count_at_moved move is s.counts id) (amount_follows (count_at s.counts id).entries)
@@ -161,10 +164,11 @@ module _ (move : ℕ → ℕ) (is : IsMove move) where
   attribute_follows s q class.Ls of = follows_bind _ (subject_follows of) (entity_value_follows s class.Ls)
   attribute_follows s q class.Ch of = follows_bind _ (subject_follows of) (entity_value_follows s class.Ch)
   attribute_follows s q class.Cc of = follows_bind _ (subject_follows of) (entity_value_follows s class.Cc)
-  attribute_follows s q class.S of = storage_follows of _ (storage_value_follows s class.S)
+  attribute_follows s q class.S of = defined_follows of _ (storage_value_follows s class.S)
   attribute_follows s q class.R of = left_follows s of
-  attribute_follows s q class.Sc of = storage_follows of _ (storage_value_follows s class.Sc)
-  attribute_follows s q class.Sm of = storage_follows of _ (storage_value_follows s class.Sm)
+  attribute_follows s q class.Sc of = defined_follows of _ (storage_value_follows s class.Sc)
+  attribute_follows s q class.Sm of = defined_follows of _ (storage_value_follows s class.Sm)
+  attribute_follows s q class.Tc of = defined_follows of _ (table_value_follows s)
   attribute_follows s q class.N of = block_count_follows of _ _ (block_value_follows s class.N)
   attribute_follows s q class.W of = block_count_follows of _ _ (block_value_follows s class.W)
   attribute_follows s q class.Rn of = random_follows of
@@ -235,10 +239,11 @@ module _ (move : ℕ → ℕ) (is : IsMove move) where
       Follows move (map (moved_watched move)) (entity_watched kind of) (entity_watched kind of)
   entity_watched_follows kind of = follows_bind _ (subject_follows of) (λ key. follows_gives refl)
 
-  storage_watched_follows : (of : Subject) → Follows move (map (moved_watched move)) (storage_watched of) (storage_watched of)
-  storage_watched_follows subjects.Own = follows_gives refl
-  storage_watched_follows (subjects.Number n) = follows_gives refl
-  storage_watched_follows (subjects.Name name) = follows_gives refl
+  defined_watched_follows : (kind : EntityKind) (of : Subject) →
+      Follows move (map (moved_watched move)) (defined_watched kind of) (defined_watched kind of)
+  defined_watched_follows kind subjects.Own = follows_gives refl
+  defined_watched_follows kind (subjects.Number n) = follows_gives refl
+  defined_watched_follows kind (subjects.Name name) = follows_gives refl
 
   counts_watched_follows : (of : Subject) → Follows move (map (moved_watched move)) (counts_watched of) (counts_watched of)
   counts_watched_follows subjects.Own = follows_gives refl
@@ -257,10 +262,11 @@ module _ (move : ℕ → ℕ) (is : IsMove move) where
   watched_follows class.Ls of = entity_watched_follows kinds.Switch of
   watched_follows class.Ch of = entity_watched_follows kinds.UserChain of
   watched_follows class.Cc of = entity_watched_follows kinds.UserChain of
-  watched_follows class.S of = storage_watched_follows of
-  watched_follows class.R of = storage_watched_follows of
-  watched_follows class.Sc of = storage_watched_follows of
-  watched_follows class.Sm of = storage_watched_follows of
+  watched_follows class.S of = defined_watched_follows kinds.Storage of
+  watched_follows class.R of = defined_watched_follows kinds.Storage of
+  watched_follows class.Sc of = defined_watched_follows kinds.Storage of
+  watched_follows class.Sm of = defined_watched_follows kinds.Storage of
+  watched_follows class.Tc of = defined_watched_follows kinds.Table of
   watched_follows class.N of = counts_watched_follows of
   watched_follows class.W of = counts_watched_follows of
   watched_follows class of = follows_gives refl

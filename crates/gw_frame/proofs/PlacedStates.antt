@@ -1,6 +1,6 @@
 -- What a move makes of a state names only blocks of the version, where the state does; and so does every state of a run, and
 -- every item that it reads.
-use Rattle.std.proofs.Common.{◌≡◌, ℕ, nat_eq, Bool, true, false, cond, not, List, [], ◌∷◌, ◌++◌, filter, Option, Some, None, inl, refl, sym, subst, ◌∙◌}
+use Rattle.std.proofs.Common.{◌≡◌, ℕ, nat_eq, Bool, true, false, cond, not, List, [], ◌∷◌, ◌++◌, filter, map, Option, Some, None, inl, refl, sym, subst, ◌∙◌}
 use Rattle.std.specs.List.{AllByRecursion}
 use Rattle.gw_nums.specs.Range.{is_below}
 use Rattle.gw_meaning.specs.declared.item.Item.{Item}
@@ -25,7 +25,7 @@ use Rattle.gw_meaning.specs.Watching.{Waiter, transactions_of}
 use Rattle.gw_meaning.specs.Listing.{Listing}
 use Rattle.gw_meaning.specs.Numbers.{AreNumbered}
 use Rattle.gw_meaning.specs.Machine.{Machine, UserChain, count_in, with_count, delay_at, user_chain_at}
-use Rattle.gw_meaning.specs.Changes.{lined_up, all_lined_up, left_at, left, crossed, is_due, due, Making, made, all_made, making_of, with_making, started, placed, own_marked, marked, linked_to, fated, let_in, copied, sent, bound, refused, watching, moved, written, is_woken, woken}
+use Rattle.gw_meaning.specs.Changes.{lined_up, all_lined_up, left_at, left, crossed, is_due, due, Making, made, all_made, making_of, with_making, started, placed, own_marked, marked, linked_to, fated, let_in, copied, sent, bound, refused, watching, reset, cleared, moved, written, is_woken, woken}
 use Rattle.gw_frame.specs.BlockIds.{IsBlockId, IsIdIfAny, TransactionNames, ActiveNames, EventNames, DelayNames, LinkedNames, WatchedNames, WaiterNames, CountNames, StateNames, ItemNames, StatesNameBlocks, StepsReadBlocks}
 use Rattle.gw_frame.proofs.Keeps.{all_with}
 use Rattle.gw_frame.proofs.Known.{IsComing, IsDecidedOwn, IsDecidedChange, IsDecided, IsRead}
@@ -318,6 +318,26 @@ module _ (t : Listing) where
         counts = h.counts;
       }
 
+  -- a RESET and a CLEAR
+  all_anew_names : {X : Type 0} (P : X → Type 0) (anew : X → X) → ((x : X) → P x → P (anew x)) → (xs : List X) → AllByRecursion P xs →
+      AllByRecursion P (map anew xs)
+  all_anew_names P anew each [] all = tt
+  all_anew_names P anew each (x ∷ xs) all = (each x all.0, all_anew_names P anew each xs all.1)
+
+  reset_names : (s : Machine) → StateNames t s → StateNames t (reset s)
+  reset_names s h = record {
+    active = h.active;
+    current = h.current;
+    future = h.future;
+    delays = h.delays;
+    retry = h.retry;
+    linked = all_anew_names (LinkedNames t) _ (λ c all. all) s.linked h.linked;
+    counts = all_anew_names (CountNames t) _ (λ c named. named) s.counts h.counts;
+  }
+
+  cleared_names : (s : Machine) → StateNames t (cleared s)
+  cleared_names s = record { active = tt; current = tt; future = tt; delays = tt; retry = tt; linked = tt; counts = tt }
+
   -- moves
   moved_names : (s : Machine) (m : Move) → AreNumbered t.lines → IsDecided t s m → StateNames t s → StateNames t (moved s m)
   moved_names s (moves.Start count arrivals) numbered decided h = all_made_names s arrivals (making_of s) (started count s) decided.coming
@@ -331,6 +351,8 @@ module _ (t : Listing) where
     linked = h.linked;
     counts = h.counts;
   }
+  moved_names s moves.Reset numbered decided h = reset_names s h
+  moved_names s moves.Clear numbered decided h = cleared_names s
   moved_names s (moves.Enter id change fate) numbered decided h =
       entered_has (StateNames t) (StateNames t) t s id change fate decided.1 h
       (λ x is. settled_names s x id change fate h (active_names s x is h) decided.0 (marked_names s x id change numbered decided.1 decided.0))

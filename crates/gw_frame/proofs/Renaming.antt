@@ -6,7 +6,7 @@ use Rattle.gw_meaning.specs.declared.item.Item.TheVariants as items
 use Rattle.gw_meaning.specs.declared.statement.Definition.{Definition}
 use Rattle.gw_meaning.specs.declared.statement.Statement.{Statement}
 use Rattle.gw_meaning.specs.declared.statement.Numbered.{Numbered}
-use Rattle.gw_meaning.specs.Listing.{block_of, block_of_body, command_of, command_of_body, is_block, is_generate, is_generate_body, has_label, line_in, first_block, after_in, position_in, labelled_in, definition_of_body, definition_if, or_next, defines, first_said, units_of, number_of, expression_of, function_of, generates_in, nth}
+use Rattle.gw_meaning.specs.Listing.{block_of, block_of_body, command_of, command_of_body, is_block, is_generate, is_generate_body, has_label, line_in, first_block, after_in, position_in, labelled_in, definition_of_body, definition_if, or_next, defines, first_said, units_of, number_of, expression_of, function_of, argument_of, generates_in, nth}
 use Rattle.gw_meaning.specs.Questions.{ask}
 use Rattle.gw_frame.specs.Moved.{IsMove}
 use Rattle.gw_frame.specs.Renamed.{AreRenamed, RenamedAnswers}
@@ -110,6 +110,7 @@ renamed_answers move t u seed r (items.Named asking.Storage name) =
     ap (λ o. unwrap_or o 0) (said_renamed move r.is_move units_of name t.lines u.lines r.lines)
 renamed_answers move t u seed r (items.Named asking.Variable name) = said_renamed move r.is_move expression_of name t.lines u.lines r.lines
 renamed_answers move t u seed r (items.Named asking.Function name) = said_renamed move r.is_move function_of name t.lines u.lines r.lines
+renamed_answers move t u seed r (items.Named asking.Table name) = said_renamed move r.is_move argument_of name t.lines u.lines r.lines
 renamed_answers move t u seed r items.Generates = generates_renamed move r.is_move t.lines u.lines r.lines
 renamed_answers move t u seed r (items.Cmd i) = ap (λ cs. nth cs i) (commands_renamed move t.lines u.lines r.lines)
 renamed_answers move t u seed r item = ap (λ n. ask (record t { horizon = n }) seed item) r.horizon

@@ -5,7 +5,7 @@ use Rattle.gw_nums.specs.Range.{is_negative, magnitude}
 use Rattle.gw_expr.specs.Arithmetic.{applied}
 use Rattle.gw_expr.specs.declared.token.Operator.TheVariants as operators
 use Rattle.gw_expr.specs.declared.expr.Discipline.{Discipline}
-use Rattle.gw_expr.specs.Term.{Term, Label, Fraction, Defined, Order}
+use Rattle.gw_expr.specs.Term.{Term, Label, Fraction, Defined, Table, Order}
 use Rattle.gw_names.specs.declared.key.Key.{Key}
 use Rattle.gw_names.specs.declared.key.Key.TheVariants as keys
 use Rattle.gw_names.specs.declared.verb.BlockVerb.{BlockVerb}
@@ -30,7 +30,7 @@ use Rattle.gw_meaning.specs.Statements.{A, B, C, D, E, operand, is_generate_verb
 use Rattle.gw_meaning.specs.Machine.{Machine, live, delay_at, user_chain_at}
 use Rattle.gw_meaning.specs.Entities.{facility_at, line_at, store_at, savevalue_at}
 use Rattle.gw_meaning.specs.Evaluation.{Eval, millionths}
-use Rattle.gw_meaning.specs.Step.{for_none, for_one, arrival_at, arrival_in_time, arrival_prog, first_of_generate, first_of, first_arrival, with_arrival, arrivals_prog, first_arrivals_prog, start_prog, generate_prog, delay_of, advance_prog, terminate_prog, is_too_many, queue_prog, depart_units, depart_prog, seize_or_wait, seize_prog, is_owner, release_prog, beside, in_use, share_of, all_shares, enter_or_wait, enter_storage, enter_prog, shares_prog, leave_for, leave_units, leave_prog, go_to, lead_to, transfer_prog, holds, test_prog, priority_prog, by_sign, assign_with, assign_prog, is_open, reads_capacity, gate_storage, gate_of, gate_prog, logic_prog, savevalue_with, savevalue_prog, split_to, split_count, split_prog, link_prog, unlink_to, unlink_count, leaving_prog, unlink_prog, left_of, loop_back, loop_to, loop_prog, block_prog, meet_prog, try_prog, attempt_prog, pass_or_wait, gate_at, gate_other}
+use Rattle.gw_meaning.specs.Step.{for_none, for_one, arrival_at, arrival_in_time, arrival_prog, first_of_generate, first_of, first_arrival, with_arrival, arrivals_prog, first_arrivals_prog, start_prog, generate_prog, delay_of, advance_prog, terminate_prog, is_too_many, queue_prog, depart_units, depart_prog, seize_or_wait, seize_prog, is_owner, release_prog, beside, in_use, share_of, all_shares, enter_or_wait, enter_storage, enter_prog, shares_prog, leave_for, leave_units, leave_prog, go_to, lead_to, transfer_prog, holds, test_prog, priority_prog, by_sign, assign_with, assign_prog, is_open, reads_capacity, gate_storage, gate_of, gate_prog, logic_prog, savevalue_with, savevalue_prog, split_to, split_count, split_prog, link_prog, unlink_to, unlink_count, leaving_prog, unlink_prog, tabulate_with, tabulate_prog, left_of, loop_back, loop_to, loop_prog, block_prog, meet_prog, try_prog, attempt_prog, pass_or_wait, gate_at, gate_other}
 use Rattle.gw_meaning.specs.declared.watched.Watched.{Watched}
 use Rattle.gw_laws.proofs.Trying.{Tries, TriesAny, tries_gives, tries_ends, tries_asks, tries_stops, tries_cond, tries_bind, tries_more, draw_tries, arithmetic_tries, value_tries, value_there_tries, value_or_zero_tries, entity_tries, units_tries, time_tries, value_traced_tries, entity_traced_tries}
 
@@ -346,6 +346,15 @@ module _ (s : Machine) where
     unlink_tries q id entity label count = tries_bind (entity_tries s q entity)
         (λ key. tries_bind (leaving_tries q count (length (user_chain_at s.linked key).members)) (unlink_count_tries id key label))
 
+    tabulate_with_tries : (q : Asker) (id : ℕ) (key : Key) (argument : Option Term) → TriesMove P L id (tabulate_with s q id key argument)
+    tabulate_with_tries q id key argument = tries_bind (value_there_tries s q argument) (λ v. tries_gives (refl, tt))
+
+    tabulate_tries : (q : Asker) (id : ℕ) (table : Option Term) → TriesMove P L id (tabulate_prog s q id table)
+    tabulate_tries q id (Some (Table name)) =
+        tries_asks (items.Named asking.Table name) (tabulate_with_tries q id (keys.Defined name))
+    tabulate_tries q id (Some term) = tries_ends
+    tabulate_tries q id None = tries_ends
+
   block_tries : (x : Transaction) (id : ℕ) (b : Block) (verb : BlockVerb) →
       TriesMove (WaitsAtVerb b verb) (LinksAtVerb b verb) id (block_prog s x id b verb)
   block_tries x id b blocks.Generate = generate_tries ⊥ never x id (operand b A) (operand b B) (operand b D) (operand b E)
@@ -366,12 +375,12 @@ module _ (s : Machine) where
   block_tries x id b blocks.Split = split_tries ⊥ never (for_one s x) id (operand b A) (operand b B)
   block_tries x id b blocks.Link = link_tries ⊥ (LinksAtVerb b blocks.Link) (for_one s x) id (operand b A) (operand b B) (λ discipline is. is)
   block_tries x id b blocks.Unlink = unlink_tries ⊥ never (for_one s x) id (operand b A) (operand b B) (operand b C)
+  block_tries x id b blocks.Tabulate = tabulate_tries ⊥ never (for_one s x) id (operand b A)
   block_tries x id b blocks.Mark = tries_gives (refl, tt)
   block_tries x id b blocks.Priority = priority_tries ⊥ never (for_one s x) id (operand b A)
   block_tries x id b blocks.Buffer = tries_gives (refl, tt)
   block_tries x id b blocks.Assign = assign_tries ⊥ never (for_one s x) id b.auxiliary (operand b A) (operand b B)
   block_tries x id b blocks.Loop = loop_tries ⊥ never (for_one s x) id (operand b A) (operand b B)
-  block_tries x id b verb = tries_ends
 
   pub meet_waits : (x : Transaction) (id : ℕ) (block : Option Block) → TriesMove (WaitsAtBlock block) (LinksAtBlock block) id (meet_prog s x id block)
   meet_waits x id None = tries_ends

@@ -35,6 +35,7 @@ use Rattle.gw_laws.proofs.Crowd.{one, many, many_lined, future_parts, many_all_l
 use Rattle.gw_laws.proofs.NumberLaws.{has_number, IsNumbered, same_numbered, made_numbered, settled_numbered, lets_numbered, copied_numbered, unlinked_numbered, all_numbered}
 use Rattle.gw_laws.proofs.Room.{all_within}
 use Rattle.gw_laws.proofs.Waking.{unwoken}
+use Rattle.gw_laws.proofs.Anew.{all_go}
 
 -- the current chain and each delay chain are in order of priority
 pub record AreChained (s : Machine) : Type 0 where
@@ -80,6 +81,8 @@ refused_ordered s x id key units h = record {
 pub moved_ordered : (t : Listing) (s : Machine) (m : Move) → IsDecided t s m → AreChained s → AreChained (moved s m)
 moved_ordered t s (moves.Start count arrivals) decided h = record { current = h.current; delays = h.delays }
 moved_ordered t s moves.Command decided h = record { current = h.current; delays = h.delays }
+moved_ordered t s moves.Reset decided h = record { current = h.current; delays = h.delays }
+moved_ordered t s moves.Clear decided h = record { current = tt; delays = tt }
 moved_ordered t s (moves.Enter id change fate) decided h =
     entered_has AreChained AreChained t s id change fate decided.1 h (λ x is. settled_ordered s x id change fate h)
     (λ v. record {
@@ -332,6 +335,8 @@ module _ (priority : ℤ) where
       DecidedTurn s m
   decided_turn t s (moves.Start count arrivals) room decided h order = none_turn s (moved s (moves.Start count arrivals)) (same_turn s)
   decided_turn t s moves.Command room decided h order = none_turn s (moved s moves.Command) (same_turn s)
+  decided_turn t s moves.Reset room decided h order = none_turn s (moved s moves.Reset) (same_turn s)
+  decided_turn t s moves.Clear room decided h order = none_turn s (moved s moves.Clear) (all_go (numbers_of priority s.current))
   decided_turn t s (moves.Enter id change fate) room decided h order =
       let m = moves.Enter id change fate in
       behind_turn s (woken (written s m) (moved s m))

@@ -21,6 +21,8 @@ use Rattle.gw_frame.proofs.Moves.{settled_is, with_active_has, entered_has, pick
 use Rattle.gw_frame.proofs.Running.{over_run, over_rest}
 use Rattle.gw_laws.specs.Clock.{ClockNeverGoesBack, ClockStaysWithin, NothingIsOverdue}
 use Rattle.gw_laws.proofs.Waiting.{let_in_is}
+use Rattle.gw_laws.proofs.Anew.{no_clear}
+use Rattle.gw_laws.specs.Anew.{Clears}
 
 -- no time lies before this one
 abbrev pub AreAhead : ℕ → List Event → Type 0
@@ -86,10 +88,12 @@ fated_ahead change (fates.Linked key discipline) x s decided h = h
 fated_ahead change (fates.Destroyed count) x s decided h = h
 
 -- each move
-pub moved_goes_on : (t : Listing) (s : Machine) (m : Move) → IsDecided t s m → IsInTime t s → GoesOn t s.clock (moved s m)
-moved_goes_on t s (moves.Start count arrivals) decided h = (omega arith, (h.0, all_made_ahead t s arrivals (making_of s) decided.coming h.1))
-moved_goes_on t s moves.Command decided h = (omega arith, h)
-moved_goes_on t s (moves.Enter id change fate) decided h =
+pub moved_goes_on : (t : Listing) (s : Machine) (m : Move) → IsDecided t s m → (Clears m → ⊥) → IsInTime t s → GoesOn t s.clock (moved s m)
+moved_goes_on t s (moves.Start count arrivals) decided apart h = (omega arith, (h.0, all_made_ahead t s arrivals (making_of s) decided.coming h.1))
+moved_goes_on t s moves.Command decided apart h = (omega arith, h)
+moved_goes_on t s moves.Reset decided apart h = (omega arith, h)
+moved_goes_on t s moves.Clear decided apart h = absurd (apart tt)
+moved_goes_on t s (moves.Enter id change fate) decided apart h =
     let P : Machine → Type 0 = λ v. (v.clock ≡ s.clock) × AreAhead s.clock v.future in
     let whole : P (moved s (moves.Enter id change fate)) =
     entered_has P P t s id change fate decided.1 (refl, h.1) (λ x is. ((settled_is s x id change fate).clock, fated_ahead change fate _ _ decided.2 h.1))
@@ -101,19 +105,23 @@ moved_goes_on t s (moves.Enter id change fate) decided h =
       unlinks = λ w key to x xs named is k. k;
     }) in
     rw whole.0 (omega arith, (h.0, whole.1))
-moved_goes_on t s (moves.Refuse id key units) decided h =
+moved_goes_on t s (moves.Refuse id key units) decided apart h =
     with_active_has (GoesOn t s.clock) s.active (λ x. refused s x id key units) s (omega arith, h) (λ x is. (omega arith, h))
-moved_goes_on t s (moves.Watch read) decided h =
+moved_goes_on t s (moves.Watch read) decided apart h =
     with_active_has (GoesOn t s.clock) s.active (λ x. watching s x read) s (omega arith, h) (λ x is. (omega arith, h))
-moved_goes_on t s moves.Pick decided h = picked_has (GoesOn t s.clock) s s.current (omega arith, h) (λ x xs is. (omega arith, h))
-moved_goes_on t s (moves.Clock time) decided h = (
+moved_goes_on t s moves.Pick decided apart h = picked_has (GoesOn t s.clock) s s.current (omega arith, h) (λ x xs is. (omega arith, h))
+moved_goes_on t s (moves.Clock time) decided apart h = (
   least_is_ahead s.clock s.future time decided.0 h.1,
   (leb-true time t.horizon decided.1, rest_ahead time time s.future (least_is_least s.future time decided.0)),
 )
 
+pub moved_in_time : (t : Listing) (s : Machine) (m : Move) → IsDecided t s m → IsInTime t s → IsInTime t (moved s m)
+moved_in_time t s moves.Clear decided h = (omega arith, tt)
+moved_in_time t s m decided h = (moved_goes_on t s m decided (λ c. c) h).1
+
 -- over a run
 all_in_time : (t : Listing) (seed n : ℕ) (s : Machine) → run t seed n ≡ Ok s → IsInTime t s
-all_in_time t seed = over_run t seed (λ n s. IsInTime t s) (omega arith, tt) (λ n s m streams there decided h. (moved_goes_on t s m decided h).1)
+all_in_time t seed = over_run t seed (λ n s. IsInTime t s) (omega arith, tt) (λ n s m streams there decided h. moved_in_time t s m decided h)
 
 pub clock_stays_within : ClockStaysWithin
 clock_stays_within t seed n s is = (all_in_time t seed n s is).0
@@ -122,6 +130,13 @@ pub nothing_is_overdue : NothingIsOverdue
 nothing_is_overdue t seed n s is = All-from_recursion (λ (e : Event). s.clock ≤ e.time) s.future (all_in_time t seed n s is).1
 
 pub clock_never_goes_back : ClockNeverGoesBack
-clock_never_goes_back t seed m n s v before there is =
-    over_rest t seed (λ i w. s.clock ≤ w.clock) m s there (omega arith)
-    (λ k u move streams at decided h. let goes = (moved_goes_on t u move decided (all_in_time t seed k u at)).0 in omega (arith, h, goes)) n v before is
+clock_never_goes_back t seed m n s v before there is none =
+    (over_rest t seed (λ i w. (m ≤ i) × (i ≤ n → s.clock ≤ w.clock)) m s there (omega arith, λ early. omega arith)
+    (λ k u move streams at decided h. (
+      omega (arith, h.0),
+      λ early.
+          let apart = no_clear t u move decided (none k u h.0 (omega (arith, early)) at) in
+          let goes = (moved_goes_on t u move decided apart (all_in_time t seed k u at)).0 in
+          let so_far = h.1 (omega (arith, early)) in
+          omega (arith, so_far, goes),
+    )) n v before is).1 (omega arith)

@@ -23,6 +23,8 @@ use Rattle.gw_laws.proofs.Waiting.{leaving, let_in_is}
 use Rattle.gw_laws.proofs.Counts.{content, content_crossed, content_made, content_stood}
 use Rattle.gw_laws.proofs.Crowd.{one, remains, many, others, crowd, many_living, many_is, active_crowd, future_push, settled_crowd, settled_fewer, refused_crowd, leaving_crowd, let_in_crowd, lets_crowd, copied_crowd, unlinked_crowd, picked_crowd, advanced_crowd, watching_crowd, woken_crowd}
 use Rattle.gw_laws.proofs.Room.{anyone, all_within}
+use Rattle.gw_laws.proofs.Anew.{count_reset, crowd_reset}
+use Rattle.gw_meaning.specs.declared.transaction.Count.{Count}
 
 abbrev pub stands_in : ℕ → Transaction → Bool
 stands_in p x = nat_eq x.current p
@@ -106,6 +108,9 @@ moved_counted : (t : Listing) (s : Machine) (m : Move) → s.next + 100000 < 2 ^
     IsCounted (moved s m)
 moved_counted t s (moves.Start count arrivals) room few decided h = all_made_counted arrivals (making_of s) (started count s) h
 moved_counted t s moves.Command room few decided h = h
+moved_counted t s moves.Reset room few decided h =
+    λ p some. ap (λ (c : Count). c.content) (count_reset s p) ∙ (h p some ∙ sym (crowd_reset (stands_in p) s))
+moved_counted t s moves.Clear room few decided h = λ p some. refl
 moved_counted t s (moves.Enter id change fate) room few decided h =
     let P : Machine → Type 0 = λ v. (v.next ≡ s.next) × (crowd anyone v < v.next) × IsCounted v in
     let Q : Machine → Type 0 = λ v. (v.next ≤ s.next + 100000) × (crowd anyone v < v.next) × IsCounted v in

@@ -64,6 +64,7 @@ done_below key (deeds.Facility deed) clock number next e one' all = all
 done_below key (deeds.Storage deed) clock number next e one' all = all
 done_below key (deeds.Savevalue to) clock number next e one' all = all
 done_below key (deeds.Switch set) clock number next e one' all = all
+done_below key (deeds.Table value) clock number next e one' all = all
 
 touched_below : (change : Change) (clock number next : ℕ) (e : Entities) → number < next → AreBelow next e.comings →
     AreBelow next (touched change clock number e).comings
@@ -86,6 +87,8 @@ moved_given : (t : Listing) (s : Machine) (m : Move) → s.next < 2 ^ 64 → IsN
 moved_given t s (moves.Start count arrivals) low numbered decided h =
     below_more s.next (all_made arrivals (making_of s)).next s.entities.comings (all_made_more arrivals (making_of s) low) h
 moved_given t s moves.Command low numbered decided h = h
+moved_given t s moves.Reset low numbered decided h = h
+moved_given t s moves.Clear low numbered decided h = tt
 moved_given t s (moves.Enter id change fate) low numbered decided h =
     let Q : Machine → Type 0 = λ v. (v.next < 2 ^ 64) × ComersAreGiven v in
     let whole =

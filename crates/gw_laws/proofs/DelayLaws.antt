@@ -30,6 +30,7 @@ use Rattle.gw_laws.proofs.LettingIn.{set_has, no_storage, others_stay, entering_
 use Rattle.gw_laws.proofs.Crowd.{active_crowd, waiting_with}
 use Rattle.gw_laws.proofs.NumberLaws.{has_number, IsNumbered, all_numbered}
 use Rattle.gw_laws.proofs.ChainLaws.{delay_ordered, all_chained, unchanged, lined_turn, picked_turn}
+use Rattle.gw_laws.proofs.Anew.{all_go}
 
 pub delays_are_in_order : DelaysAreInOrder
 delays_are_in_order t seed n s is key = in_order (delay_at s.delays key) (delay_ordered s key (all_chained t seed n s is))
@@ -81,6 +82,8 @@ module _ (priority : ℤ) (q : Key) where
       ((key : Key) → IsOrdered (delay_at s.delays key)) → TakesTurns s (moved s m)
   moved_turn t s (moves.Start count arrivals) facility decided h order = same_turn s (moved s (moves.Start count arrivals)) refl
   moved_turn t s moves.Command facility decided h order = same_turn s (moved s moves.Command) refl
+  moved_turn t s moves.Reset facility decided h order = same_turn s (moved s moves.Reset) refl
+  moved_turn t s moves.Clear facility decided h order = all_go (numbers_of priority (delay_at s.delays q))
   moved_turn t s (moves.Enter id change fate) facility decided h order =
       with_active_has (TakesTurns s) s.active (λ x. entering s x id change fate) s (same_turn s s refl)
       (λ x is. entering_has (TakesTurns s) t s x id change fate decided.1 (λ v same entities. same_turn s v same)
@@ -124,6 +127,8 @@ refused_bound s x id key units h =
 moved_bound : (t : Listing) (s : Machine) (m : Move) → IsDecided t s m → AllAreBound s → AllAreBound (moved s m)
 moved_bound t s (moves.Start count arrivals) decided h = h
 moved_bound t s moves.Command decided h = h
+moved_bound t s moves.Reset decided h = h
+moved_bound t s moves.Clear decided h = tt
 moved_bound t s (moves.Enter id change fate) decided h =
     entered_has AllAreBound AllAreBound t s id change fate decided.1 h (λ x is. rw (settled_is s x id change fate).delays h)
     (λ v. record {

@@ -31,11 +31,13 @@ use Rattle.gw_laws.proofs.Crowd.{one, many, others, crowd, active_many, active_c
 use Rattle.gw_laws.proofs.NumberLaws.{has_number, IsNumbered, all_numbered}
 use Rattle.gw_laws.proofs.Room.{all_within}
 use Rattle.gw_laws.proofs.OwnValueLaws.{many_parts}
-use Rattle.gw_laws.proofs.Tried.{IsScan, IsCommand, IsNext, no_start, no_command, Makes, AllKeep, changed_keeps, over_moves, IsBehind, step_is_next}
+use Rattle.gw_laws.proofs.Tried.{IsScan, IsCommand, IsNext, no_start, no_command, no_reset, no_clear_scanned, Makes, AllKeep, changed_keeps, over_moves, IsBehind, step_is_next}
 use Rattle.gw_laws.proofs.Attempts.{IsAt}
 use Rattle.gw_laws.proofs.Waking.{nobody_wakes}
 use Rattle.gw_laws.proofs.GateLaws.{transaction_there}
 use Rattle.gw_streams.specs.declared.stream.Stream.{Stream}
+use Rattle.gw_laws.proofs.Anew.{clears_or, nobody_lives, nobody_in, crowd_reset, members_anew}
+use Rattle.gw_laws.specs.Anew.{Clears}
 
 -- ---- where no START is under way, none is active
 
@@ -59,13 +61,19 @@ module _ (t : Listing) where
   command_idle : (s : Machine) (m : Move) (c : Option Command) → s.remaining ≡ 0 → IsCommand c m → Idle s → Idle (moved s m)
   command_idle s (moves.Start n arrivals) c idle next h = λ none. h idle
   command_idle s moves.Command c idle next h = λ none. h idle
+  command_idle s moves.Reset c idle next h = λ none. h idle
+  command_idle s moves.Clear c idle next h = λ none. refl
   command_idle s m None idle next h = absurd next
   command_idle s m (Some (commands.Start count)) idle next h = absurd next
   command_idle s m (Some (commands.Rmult values)) idle next h = absurd next
+  command_idle s m (Some commands.Reset) idle next h = absurd next
+  command_idle s m (Some commands.Clear) idle next h = absurd next
 
   scan_idle : (s : Machine) (m : Move) (n : ℕ) → s.remaining ≡ suc n → IsScan t s.active m → Idle s → Idle (moved s m)
   scan_idle s (moves.Start count arrivals) n busy next h = absurd (no_start t s.active count arrivals next)
   scan_idle s moves.Command n busy next h = absurd (no_command t s.active next)
+  scan_idle s moves.Reset n busy next h = absurd (no_reset t s.active next)
+  scan_idle s moves.Clear n busy next h = absurd (no_clear_scanned t s.active next)
   scan_idle s (moves.Enter id change fate) n busy next h =
       with_active_has Idle s.active (λ x. entering s x id change fate) s h
       (λ x is. changed_keeps Idle change (settled s x id change fate)
@@ -489,13 +497,24 @@ module _ (x : Transaction) (low : x.number < 2 ^ 64 - 1) where
       all_made_same rest (made a w) s
       (makes_clear x.number low changed_one changed_other (has_number x.number) changed_sent a (with_making w s) h)
 
-  moved_same : (t : Listing) (s : Machine) (m : Move) → IsDecided t s m → OthersAreActive s → NoneChanged s → NoneChanged (moved s m)
-  moved_same t s (moves.Start count arrivals) decided others h =
+  moved_same : (t : Listing) (s : Machine) (m : Move) → IsDecided t s m → (Clears m → ⊥) → OthersAreActive s → NoneChanged s →
+      NoneChanged (moved s m)
+  moved_same t s (moves.Start count arrivals) decided apart others h =
       all_made_same arrivals (making_of s) (started count s)
       (record { given = h.given; none_waits = h.none_waits; none_linked = h.none_linked; none_passes = h.none_passes })
-  moved_same t s moves.Command decided others h =
+  moved_same t s moves.Command decided apart others h =
       record { given = h.given; none_waits = h.none_waits; none_linked = h.none_linked; none_passes = h.none_passes }
-  moved_same t s (moves.Enter id change fate) decided others h =
+  moved_same t s moves.Reset decided apart others h =
+      let same = crowd_reset changed_one s in
+      let linked = ap (λ ds. many (has_number x.number) (waiting ds)) (members_anew s.linked) in
+      record {
+        given = h.given;
+        none_waits = h.none_waits;
+        none_linked = let none = h.none_linked in omega (arith, linked, none);
+        none_passes = let none = h.none_passes in omega (arith, same, none);
+      }
+  moved_same t s moves.Clear decided apart others h = absurd (apart tt)
+  moved_same t s (moves.Enter id change fate) decided apart others h =
       let keep : AllKeep NoneChanged = all_clear x.number low changed_one changed_other (has_number x.number) changed_sent in
       entered_has NoneChanged NoneChanged t s id change fate decided.1 h (λ y is. settled_same s y id change fate others is h)
       (λ v. record {
@@ -505,21 +524,21 @@ module _ (x : Transaction) (low : x.number < 2 ^ 64 - 1) where
         copies = λ w to y values copying k. keep.copies w to y values k;
         unlinks = λ w key to y ys named is k. keep.unlinks w key to y ys is k;
       })
-  moved_same t s (moves.Refuse id key units) decided others h =
+  moved_same t s (moves.Refuse id key units) decided apart others h =
       with_active_has NoneChanged s.active (λ y. refused s y id key units) s h (λ y is. refused_same s y id key units others is h)
-  moved_same t s (moves.Watch read) decided others h =
+  moved_same t s (moves.Watch read) decided apart others h =
       with_active_has NoneChanged s.active (λ y. watching s y read) s h
       (λ y is.
       let same = watching_crowd changed_one s y read is in
       let none = h.none_passes in
       record { given = h.given; none_waits = h.none_waits; none_linked = h.none_linked; none_passes = omega (arith, same, none) })
-  moved_same t s moves.Pick decided others h =
+  moved_same t s moves.Pick decided apart others h =
       picked_has NoneChanged s s.current h
       (λ y ys is.
       let same = picked_crowd changed_one s y ys decided is in
       let none = h.none_passes in
       record { given = h.given; none_waits = h.none_waits; none_linked = h.none_linked; none_passes = omega (arith, same, none) })
-  moved_same t s (moves.Clock time) decided others h =
+  moved_same t s (moves.Clock time) decided apart others h =
       let same = advanced_crowd changed_one s time in
       let none = h.none_passes in
       record { given = h.given; none_waits = h.none_waits; none_linked = h.none_linked; none_passes = omega (arith, same, none) }
@@ -564,12 +583,16 @@ others_stay_in_their_blocks t seed n s v well within there is x y stands lives' 
     let given = on_chains_low s x h stands in
     let low : x.number < 2 ^ 64 - 1 = omega (arith, given, room.next, well.greatest_limit, within) in
     let before = before_step x low s h stands given in
-    let moved' = moved_same x low t s after.move after.is_decided before.0 before.1 in
-    let test = changed_one x low in
-    let clear =
-    woken_clear x.number low test (changed_other x low) (has_number x.number) (changed_sent x low) (written s after.move) (moved s after.move) moved' in
-    let now : crowd test v ≡ 0 = ap (crowd test) after.is ∙ clear.none_passes in
-    stayed x low v y now lives' same
+    elim (clears_or after.move) [
+      | inl clears ↦ absurd (nobody_in y (living v) (nobody_lives s v after.move after.streams after.is clears) lives')
+      | inr apart ↦
+          let moved' = moved_same x low t s after.move after.is_decided apart before.0 before.1 in
+          let test = changed_one x low in
+          let clear =
+          woken_clear x.number low test (changed_other x low) (has_number x.number) (changed_sent x low) (written s after.move) (moved s after.move) moved' in
+          let now : crowd test v ≡ 0 = ap (crowd test) after.is ∙ clear.none_passes in
+          stayed x low v y now lives' same
+    ]
 
 -- ---- the one that was active, wherever it is now
 

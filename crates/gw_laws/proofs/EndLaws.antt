@@ -133,6 +133,8 @@ module _ (t : Listing) (seed : ℕ) (s : Machine) where
   command_why None end next idle is = let same : ends.CommandsDone ≡ end = cc in subst Why same (record { idle = idle; last = next })
   command_why (Some (commands.Start count)) end next idle is = start_why s.primed count end refl idle next is
   command_why (Some (commands.Rmult values)) end next idle is = absurd cc
+  command_why (Some commands.Reset) end next idle is = absurd cc
+  command_why (Some commands.Clear) end next idle is = absurd cc
 
   clock_why : (time : Option ℕ) (end : End) → least_time s.future ≡ time → 1 ≤ s.remaining → s.active ≡ None → s.current ≡ [] →
       result_of t seed (clock_prog time s.streams) ≡ Err end → Why end

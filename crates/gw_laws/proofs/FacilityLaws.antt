@@ -21,7 +21,10 @@ use Rattle.gw_frame.proofs.Running.{over_run}
 use Rattle.gw_laws.specs.Facilities.{owners, IsUsed, FacilitiesAreUsed}
 use Rattle.gw_laws.proofs.Entries.{Each, at_has, with_has}
 use Rattle.gw_laws.proofs.Waiting.{let_in_is}
-use Rattle.gw_laws.proofs.ClockLaws.{IsInTime, moved_goes_on}
+use Rattle.gw_laws.proofs.ClockLaws.{IsInTime, moved_goes_on, moved_in_time}
+use Rattle.gw_laws.specs.Anew.{Clears}
+use Rattle.gw_meaning.specs.Entities.{all_anew}
+use Rattle.gw_entities.specs.Records.{facility_anew}
 
 abbrev AreUsed : ℕ → ℕ → List (Key × Ownership) → Type 0
 AreUsed clock steps = Each (IsUsed clock steps)
@@ -103,10 +106,19 @@ module _ (steps : ℕ) where
   touched_used s (changes.Split count to) number all = again s.clock s.entities.facilities all
   touched_used s (changes.Unlink key count to) number all = again s.clock s.entities.facilities all
 
+  -- counted anew
+  anew_used : (clock : ℕ) (fs : List (Key × Ownership)) → AreUsed clock steps fs → AreUsed clock (steps + 1) (all_anew (facility_anew clock) fs)
+  anew_used clock [] all = tt
+  anew_used clock (f ∷ fs) all =
+      (record { captures = omega arith; content = all.0.content; sum = omega arith; at = omega arith }, anew_used clock fs all.1)
+
   -- each move
-  moved_used : (t : Listing) (s : Machine) (m : Move) → IsDecided t s m → s.clock ≤ (moved s m).clock → Used s → UsedAgain (moved s m)
+  moved_used : (t : Listing) (s : Machine) (m : Move) → IsDecided t s m → ((Clears m → ⊥) → s.clock ≤ (moved s m).clock) → Used s →
+      UsedAgain (moved s m)
   moved_used t s (moves.Start count arrivals) decided on all = again s.clock s.entities.facilities all
   moved_used t s moves.Command decided on all = again s.clock s.entities.facilities all
+  moved_used t s moves.Reset decided on all = anew_used s.clock s.entities.facilities all
+  moved_used t s moves.Clear decided on all = tt
   moved_used t s (moves.Enter id change fate) decided on all =
       entered_has UsedAgain UsedAgain t s id change fate decided.1 (again s.clock s.entities.facilities all)
       (λ x is. (let same = settled_is s x id change fate in rw (same.clock, same.entities) (touched_used s change x.number all)))
@@ -125,16 +137,15 @@ module _ (steps : ℕ) where
       (λ x is. again s.clock s.entities.facilities all)
   moved_used t s moves.Pick decided on all =
       picked_has UsedAgain s s.current (again s.clock s.entities.facilities all) (λ x xs is. again s.clock s.entities.facilities all)
-  moved_used t s (moves.Clock time) decided on all = all_later s.clock time steps (steps + 1) s.entities.facilities on (omega arith) all
+  moved_used t s (moves.Clock time) decided on all = all_later s.clock time steps (steps + 1) s.entities.facilities (on (λ c. c)) (omega arith) all
 
 -- over a run
 pub facilities_are_used : FacilitiesAreUsed
 facilities_are_used t seed n s is =
     All-from_recursion (λ (f : Key × Ownership). IsUsed s.clock n f.1) s.entities.facilities
     (over_run t seed (λ n v. IsInTime t v × AreUsed v.clock n v.entities.facilities) ((omega arith, tt), tt)
-    (λ n v m streams there decided h.
-    (let goes = moved_goes_on t v m decided h.0 in (
-      goes.1,
+    (λ n v m streams there decided h. (
+      moved_in_time t v m decided h.0,
       all_later (moved v m).clock (moved v m).clock (n + 1) (suc n) (moved v m).entities.facilities (omega arith) (omega arith)
-          (moved_used n t v m decided goes.0 h.1),
-    ))) n s is).1
+          (moved_used n t v m decided (λ apart. (moved_goes_on t v m decided apart h.0).0) h.1),
+    )) n s is).1

@@ -28,6 +28,8 @@ use Rattle.gw_laws.proofs.Crowd.{one, active_crowd, future_many}
 use Rattle.gw_laws.proofs.NumberLaws.{has_number, IsNumbered, all_numbered}
 use Rattle.gw_laws.proofs.Room.{all_within}
 use Rattle.gw_laws.proofs.StayLaws.{some_stay, others_come, all_stay}
+use Rattle.gw_laws.proofs.Anew.{none_stay, no_clear}
+use Rattle.gw_laws.specs.Anew.{Clears}
 
 -- a number that no transaction has
 not_coming : (k : ℕ) (es : List Event) → future_many (has_number k) es ≡ 0 → is_in (numbers_coming es) k ≡ false
@@ -139,6 +141,8 @@ module _ (s : Machine) (h : IsNumbered s) where
       came_keeps (all_made arrivals (making_of s)).future
       (all_made_came arrivals (making_of s) (omega arith) (omega (arith, room, decided.few)) none_came)
   moved_came t moves.Command room decided = all_stay (numbers_coming s.future)
+  moved_came t moves.Reset room decided = all_stay (numbers_coming s.future)
+  moved_came t moves.Clear room decided = none_stay (numbers_coming s.future)
   moved_came t (moves.Enter id change fate) room decided =
       came_keeps (moved s (moves.Enter id change fate)).future
       (entered_has (λ v. (v.next ≡ s.next) × Came s v.future) (λ v. Came s v.future) t s id change fate decided.1 none_came
@@ -203,10 +207,12 @@ module _ (e : Event) where
   settled_there s x id change (fates.Linked key discipline) h = h
   settled_there s x id change (fates.Destroyed count) h = h
 
-  moved_there : (t : Listing) (s : Machine) (m : Move) → IsDecided t s m → IsThere s → StaysOrIsDue (moved s m)
-  moved_there t s (moves.Start count arrivals) decided h = inl (all_made_there arrivals (making_of s) h)
-  moved_there t s moves.Command decided h = inl h
-  moved_there t s (moves.Enter id change fate) decided h =
+  moved_there : (t : Listing) (s : Machine) (m : Move) → IsDecided t s m → (Clears m → ⊥) → IsThere s → StaysOrIsDue (moved s m)
+  moved_there t s (moves.Start count arrivals) decided apart h = inl (all_made_there arrivals (making_of s) h)
+  moved_there t s moves.Command decided apart h = inl h
+  moved_there t s moves.Reset decided apart h = inl h
+  moved_there t s moves.Clear decided apart h = absurd (apart tt)
+  moved_there t s (moves.Enter id change fate) decided apart h =
       inl (entered_has IsThere IsThere t s id change fate decided.1 h (λ x is. settled_there s x id change fate h)
       (λ v. record {
         nothing = λ k. k;
@@ -215,18 +221,19 @@ module _ (e : Event) where
         copies = λ w to x values copying k. k;
         unlinks = λ w key to x xs named is k. k;
       }))
-  moved_there t s (moves.Refuse id key units) decided h =
+  moved_there t s (moves.Refuse id key units) decided apart h =
       inl (with_active_has IsThere s.active (λ x. refused s x id key units) s h (λ x is. h))
-  moved_there t s (moves.Watch read) decided h =
+  moved_there t s (moves.Watch read) decided apart h =
       inl (with_active_has IsThere s.active (λ x. watching s x read) s h (λ x is. h))
-  moved_there t s moves.Pick decided h = inl (picked_has IsThere s s.current h (λ x xs is. h))
-  moved_there t s (moves.Clock time) decided h =
+  moved_there t s moves.Pick decided apart h = inl (picked_has IsThere s s.current h (λ x xs is. h))
+  moved_there t s (moves.Clock time) decided apart h =
       elim (cases_Bool (is_due time e)) [
         | inl now ↦ inr (eqb-true e.time time now)
         | inr later ↦ inl (rest_has time s.future later h)
       ]
 
 pub nobody_leaves_before_his_time : NobodyLeavesBeforeHisTime
-nobody_leaves_before_his_time t seed n s v there is e stands =
+nobody_leaves_before_his_time t seed n s v there is none e stands =
     let after = ((step_decides t seed s).runs v (sym (run_on t seed n s there) ∙ is)).0 in
-    subst (StaysOrIsDue e) (sym after.is) (moved_there e t s after.move after.is_decided stands)
+    subst (StaysOrIsDue e) (sym after.is) (moved_there e t s after.move after.is_decided
+    (no_clear t s after.move after.is_decided none) stands)

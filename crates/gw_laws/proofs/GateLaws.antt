@@ -15,7 +15,7 @@ use Rattle.gw_entities.specs.Tables.{value_of, with_value}
 use Rattle.gw_entities.proofs.Finding.{value_of-with_value}
 use Rattle.gw_entities.proofs.ComingLaws.{key_same}
 use Rattle.gw_expr.specs.declared.atom.Atom.TheVariants as atoms
-use Rattle.gw_expr.specs.Term.{Term, Value, Computed, Named, Label, Fraction, Defined, Order}
+use Rattle.gw_expr.specs.Term.{Term, Value, Computed, Named, Label, Fraction, Defined, Table, Order}
 use Rattle.gw_expr.specs.Evaluation as operands
 use Rattle.gw_expr.specs.declared.stop.Stop.TheVariants.{Range}
 use Rattle.gw_streams.specs.declared.stream.Stream.{Stream}
@@ -44,12 +44,12 @@ use Rattle.gw_meaning.specs.declared.watched.Watched.TheVariants as watched
 use Rattle.gw_meaning.specs.contracts.watched.WatchedEq.TheImpl.Laws as laws
 use Rattle.gw_meaning.specs.Statements.{A, B, operand}
 use Rattle.gw_meaning.specs.Listing.{Listing, block_at, after_at, command_at, number_at, capacity_at, or_next}
-use Rattle.gw_meaning.specs.Entities.{Entities, facility_at, line_at, store_at, savevalue_at, switch_at, done, touched, later}
+use Rattle.gw_meaning.specs.Entities.{Entities, facility_at, line_at, store_at, savevalue_at, switch_at, done, touched, later, table_at}
 use Rattle.gw_meaning.specs.Watching.{Waiter, same_watched, is_watched, with_watched, kind_of, transactions_of}
 use Rattle.gw_meaning.specs.Machine.{Machine, UserChain, raised, user_chain_at, zero_state}
 use Rattle.gw_meaning.specs.Questions.{result_of}
 use Rattle.gw_meaning.specs.Evaluation.{Eval, gives, stops_if, numbered, named, entity_prog, entity_traced}
-use Rattle.gw_entities.specs.Records.{Ownership, never_owned, no_line, Store, never_used}
+use Rattle.gw_entities.specs.Records.{Ownership, never_owned, no_line, Store, never_used, Line}
 use Rattle.gw_meaning.specs.Changes.{placed, marked, changed, written_by, written_in, entering, refused, watching, with_active, moved, written_where, written, is_woken, decided}
 use Rattle.gw_meaning.specs.Step.{for_one, is_open, kind_of_condition, reads_capacity, pass_or_wait, lead_to, go_to, gate_at, gate_storage, gate_other, gate_of, gate_prog, block_prog, meet_prog, try_prog, attempt_prog, scan_prog, move_prog, decide, run}
 use Rattle.gw_frame.proofs.Moves.{settled, settled_is, linked_behind, split_is, with_active_has, picked_has}
@@ -64,6 +64,9 @@ use Rattle.gw_laws.proofs.Entries.{at_with}
 use Rattle.gw_laws.proofs.Trying.{gives_so}
 use Rattle.gw_laws.proofs.Attempts.{IsAtOr, WaitsAtVerb, WaitsAtBlock, LinksAtBlock, meet_waits}
 use Rattle.gw_laws.proofs.WaiterLaws.{stands_of, all_stands, who_comes, waits_on, retry_decided}
+use Rattle.gw_laws.proofs.Anew.{owner_reset, queue_reset, storage_reset, chain_members}
+use Rattle.gw_laws.specs.Anew.{Resets, Clears}
+use Rattle.gw_meaning.specs.Changes.{reset}
 
 -- ---- what is watched is told apart
 
@@ -74,6 +77,7 @@ kind_same kinds.Storage kinds.Storage p q h = ap (λ n. watched.Entity kinds.Sto
 kind_same kinds.Savevalue kinds.Savevalue p q h = ap (λ n. watched.Entity kinds.Savevalue n) (key_same p q h)
 kind_same kinds.Switch kinds.Switch p q h = ap (λ n. watched.Entity kinds.Switch n) (key_same p q h)
 kind_same kinds.UserChain kinds.UserChain p q h = ap (λ n. watched.Entity kinds.UserChain n) (key_same p q h)
+kind_same kinds.Table kinds.Table p q h = ap (λ n. watched.Entity kinds.Table n) (key_same p q h)
 kind_same k l p q h = absurd (false≢true h)
 
 pub watched_same : (v w : Watched) → same_watched v w ≡ true → v ≡ w
@@ -116,6 +120,26 @@ SameEntity kinds.Storage key e f = store_at f.0 key ≡ store_at e.0 key
 SameEntity kinds.Savevalue key e f = savevalue_at f.0 key ≡ savevalue_at e.0 key
 SameEntity kinds.Switch key e f = switch_at f.0 key ≡ switch_at e.0 key
 SameEntity kinds.UserChain key e f = user_chain_at f.1 key ≡ user_chain_at e.1 key
+SameEntity kinds.Table key e f = table_at f.0 key ≡ table_at e.0 key
+
+-- the same but for what a RESET counts anew
+abbrev pub KeptEntity : EntityKind → Key → Kept → Kept → Type 0
+KeptEntity kinds.Facility key e f = (facility_at f.0 key).owner ≡ (facility_at e.0 key).owner
+KeptEntity kinds.Queue key e f = (line_at f.0 key).level.content ≡ (line_at e.0 key).level.content
+KeptEntity kinds.Storage key e f = (store_at f.0 key).level.content ≡ (store_at e.0 key).level.content
+KeptEntity kinds.Savevalue key e f = savevalue_at f.0 key ≡ savevalue_at e.0 key
+KeptEntity kinds.Switch key e f = switch_at f.0 key ≡ switch_at e.0 key
+KeptEntity kinds.UserChain key e f = (user_chain_at f.1 key).members ≡ (user_chain_at e.1 key).members
+KeptEntity kinds.Table key e f = Unit {0}
+
+kept_same : (kind : EntityKind) (key : Key) (e f : Kept) → SameEntity kind key e f → KeptEntity kind key e f
+kept_same kinds.Facility key e f same = ap (λ (o : Ownership). o.owner) same
+kept_same kinds.Queue key e f same = ap (λ (q : Line). q.level.content) same
+kept_same kinds.Storage key e f same = ap (λ (q : Store). q.level.content) same
+kept_same kinds.Savevalue key e f same = same
+kept_same kinds.Switch key e f same = same
+kept_same kinds.UserChain key e f same = ap (λ (c : UserChain). c.members) same
+kept_same kinds.Table key e f same = tt
 
 entity_itself : (kind : EntityKind) (key : Key) (e : Kept) → SameEntity kind key e e
 entity_itself kinds.Facility key e = refl
@@ -124,6 +148,7 @@ entity_itself kinds.Storage key e = refl
 entity_itself kinds.Savevalue key e = refl
 entity_itself kinds.Switch key e = refl
 entity_itself kinds.UserChain key e = refl
+entity_itself kinds.Table key e = refl
 
 later_same : (kind : EntityKind) (key : Key) (before now : ℕ) (e : Kept) → SameEntity kind key e (later before now e.0, e.1)
 later_same kinds.Facility key before now e = refl
@@ -132,6 +157,7 @@ later_same kinds.Storage key before now e = refl
 later_same kinds.Savevalue key before now e = refl
 later_same kinds.Switch key before now e = refl
 later_same kinds.UserChain key before now e = refl
+later_same kinds.Table key before now e = refl
 
 -- the value of another key
 other_stays : {V : Type 0} (none : V) (es : List (Key × V)) (other : Key) (v : V) (key : Key) → key_eq key other ≡ false →
@@ -153,6 +179,8 @@ done_same kinds.Savevalue key other deed clock number e apart = refl
 done_same kinds.Switch key other (deeds.Switch set) clock number e apart = other_stays false e.0.switches other set key apart
 done_same kinds.Switch key other deed clock number e apart = refl
 done_same kinds.UserChain key other deed clock number e apart = refl
+done_same kinds.Table key other (deeds.Table value) clock number e apart = other_stays [] e.0.tables other _ key apart
+done_same kinds.Table key other deed clock number e apart = refl
 
 entering_entities : (s : Machine) (x : Transaction) (id : ℕ) (change : Change) (fate : Fate) →
     (entering s x id change fate).entities ≡ touched change s.clock x.number s.entities
@@ -219,6 +247,7 @@ both_same kinds.Storage key e f cs same chain = same
 both_same kinds.Savevalue key e f cs same chain = same
 both_same kinds.Switch key e f cs same chain = same
 both_same kinds.UserChain key e f cs same chain = chain refl
+both_same kinds.Table key e f cs same chain = same
 
 entered_same : (s : Machine) (x : Transaction) (id : ℕ) (change : Change) (fate : Fate) (kind : EntityKind) (key : Key) →
     is_watched (written_where (Some x) id change fate s) (watched.Entity kind key) ≡ false →
@@ -232,38 +261,57 @@ entered_same s x id change fate kind key unwritten =
     (subst (λ k. is_watched (written_by change s) (watched.Entity k key) ≡ false) is parts.0)
     (subst (λ k. is_watched (written_in fate) (watched.Entity k key) ≡ false) is parts.1))
 
-pub moved_entity : (s : Machine) (m : Move) (kind : EntityKind) (key : Key) → is_watched (written s m) (watched.Entity kind key) ≡ false →
+pub moved_entity : (s : Machine) (m : Move) (kind : EntityKind) (key : Key) → (Resets m → ⊥) → (Clears m → ⊥) → is_watched (written s m) (watched.Entity kind key) ≡ false →
     SameEntity kind key (kept_of s) (kept_of (moved s m))
-moved_entity s (moves.Start count arrivals) kind key unwritten = entity_itself kind key (kept_of s)
-moved_entity s moves.Command kind key unwritten = entity_itself kind key (kept_of s)
-moved_entity s (moves.Enter id change fate) kind key unwritten = go s.active unwritten where
+moved_entity s (moves.Start count arrivals) kind key uncounted apart unwritten = entity_itself kind key (kept_of s)
+moved_entity s moves.Command kind key uncounted apart unwritten = entity_itself kind key (kept_of s)
+moved_entity s moves.Reset kind key uncounted apart unwritten = absurd (uncounted tt)
+moved_entity s moves.Clear kind key uncounted apart unwritten = absurd (apart tt)
+moved_entity s (moves.Enter id change fate) kind key uncounted apart unwritten = go s.active unwritten where
   go : (o : Option Transaction) → is_watched (written_where o id change fate s) (watched.Entity kind key) ≡ false →
       SameEntity kind key (kept_of s) (kept_of (with_active o (λ x. entering s x id change fate) s))
   go None is = entity_itself kind key (kept_of s)
   go (Some x) is = entered_same s x id change fate kind key is
-moved_entity s (moves.Refuse id key' units) kind key unwritten =
+moved_entity s (moves.Refuse id key' units) kind key uncounted apart unwritten =
     let itself = entity_itself kind key (kept_of s) in
     with_active_has (λ v. SameEntity kind key (kept_of s) (kept_of v)) s.active (λ x. refused s x id key' units) s itself (λ x is. itself)
-moved_entity s (moves.Watch read) kind key unwritten =
+moved_entity s (moves.Watch read) kind key uncounted apart unwritten =
     let itself = entity_itself kind key (kept_of s) in
     with_active_has (λ v. SameEntity kind key (kept_of s) (kept_of v)) s.active (λ x. watching s x read) s itself (λ x is. itself)
-moved_entity s moves.Pick kind key unwritten =
+moved_entity s moves.Pick kind key uncounted apart unwritten =
     let itself = entity_itself kind key (kept_of s) in
     picked_has (λ v. SameEntity kind key (kept_of s) (kept_of v)) s s.current itself (λ x xs is. itself)
-moved_entity s (moves.Clock time) kind key unwritten = later_same kind key s.clock time (kept_of s)
+moved_entity s (moves.Clock time) kind key uncounted apart unwritten = later_same kind key s.clock time (kept_of s)
+
+-- but a RESET counts it anew
+reset_kept : (s : Machine) (kind : EntityKind) (key : Key) → KeptEntity kind key (kept_of s) (kept_of (reset s))
+reset_kept s kinds.Facility key = owner_reset s key
+reset_kept s kinds.Queue key = queue_reset s key
+reset_kept s kinds.Storage key = storage_reset s key
+reset_kept s kinds.Savevalue key = refl
+reset_kept s kinds.Switch key = refl
+reset_kept s kinds.UserChain key = chain_members s key
+reset_kept s kinds.Table key = tt
+
+pub moved_kept : (s : Machine) (m : Move) (kind : EntityKind) (key : Key) → (Clears m → ⊥) → is_watched (written s m) (watched.Entity kind key) ≡ false →
+    KeptEntity kind key (kept_of s) (kept_of (moved s m))
+moved_kept s moves.Reset kind key apart unwritten = reset_kept s kind key
+moved_kept s moves.Clear kind key apart unwritten = absurd (apart tt)
+moved_kept s m kind key apart unwritten =
+    kept_same kind key (kept_of s) (kept_of (moved s m)) (moved_entity s m kind key (λ r. r) (λ c. c) unwritten)
 
 -- ---- a condition
 
-open_same : (s u : Machine) (condition : Condition) (key : Key) (capacity : ℕ) → SameEntity (kind_of_condition condition) key (kept_of s) (kept_of u) →
+open_same : (s u : Machine) (condition : Condition) (key : Key) (capacity : ℕ) → KeptEntity (kind_of_condition condition) key (kept_of s) (kept_of u) →
     is_open u condition key capacity ≡ is_open s condition key capacity
-open_same s u conditions.InUse key capacity h = ap (λ (f : Ownership). is_some f.owner) h
-open_same s u conditions.NotInUse key capacity h = ap (λ (f : Ownership). not (is_some f.owner)) h
+open_same s u conditions.InUse key capacity h = ap is_some h
+open_same s u conditions.NotInUse key capacity h = ap (λ (o : Option ℕ). not (is_some o)) h
 open_same s u conditions.IsSet key capacity h = h
 open_same s u conditions.IsReset key capacity h = ap not h
-open_same s u conditions.Empty key capacity h = ap (λ (q : Store). nat_eq q.level.content 0) h
-open_same s u conditions.NotEmpty key capacity h = ap (λ (q : Store). not (nat_eq q.level.content 0)) h
-open_same s u conditions.Full key capacity h = ap (λ (q : Store). nat_le capacity q.level.content) h
-open_same s u conditions.NotFull key capacity h = ap (λ (q : Store). not (nat_le capacity q.level.content)) h
+open_same s u conditions.Empty key capacity h = ap (λ (n : ℕ). nat_eq n 0) h
+open_same s u conditions.NotEmpty key capacity h = ap (λ (n : ℕ). not (nat_eq n 0)) h
+open_same s u conditions.Full key capacity h = ap (λ (n : ℕ). nat_le capacity n) h
+open_same s u conditions.NotFull key capacity h = ap (λ (n : ℕ). not (nat_le capacity n)) h
 
 unheeded : (s : Machine) (condition : Condition) (key : Key) (m n : ℕ) → reads_capacity condition ≡ false →
     is_open s condition key m ≡ is_open s condition key n
@@ -302,6 +350,8 @@ of_nobody m h = absurd h
 of_command : (c : Option Command) (m : Move) → IsCommand c m → IsNoAttempt m
 of_command (Some (commands.Start count)) (moves.Start n arrivals) h = tt
 of_command (Some (commands.Rmult values)) moves.Command h = tt
+of_command (Some commands.Reset) moves.Reset h = tt
+of_command (Some commands.Clear) moves.Clear h = tt
 of_command c m h = absurd h
 
 module _ (t : Listing) (seed : ℕ) (s : Machine) where
@@ -442,6 +492,7 @@ module _ (t : Listing) (seed : ℕ) (s : Machine) where
   entity_named q (Some (Computed ts)) apart = unnamed (Some (Computed ts)) refl
   entity_named q (Some (Label name)) apart = unnamed (Some (Label name)) refl
   entity_named q (Some (Order discipline)) apart = unnamed (Some (Order discipline)) refl
+  entity_named q (Some (Table name)) apart = unnamed (Some (Table name)) refl
   entity_named q (Some (Fraction part)) apart = unnamed (Some (Fraction part)) refl
   entity_named q (Some (Defined name)) apart = absurd (apart name refl)
 
@@ -462,6 +513,7 @@ module _ (t : Listing) (seed : ℕ) (s : Machine) where
   gate_of_shut q id condition (Some (Named name)) label = gate_other_shut q id condition (Some (Named name)) label (λ name is. cc)
   gate_of_shut q id condition (Some (Label name)) label = gate_other_shut q id condition (Some (Label name)) label (λ name is. cc)
   gate_of_shut q id condition (Some (Order discipline)) label = gate_other_shut q id condition (Some (Order discipline)) label (λ name is. cc)
+  gate_of_shut q id condition (Some (Table name)) label = gate_other_shut q id condition (Some (Table name)) label (λ name is. cc)
   gate_of_shut q id condition (Some (Fraction part)) label = gate_other_shut q id condition (Some (Fraction part)) label (λ name is. cc)
   gate_of_shut q id condition (Some (Defined name)) label = gate_storage_shut id condition label name (reads_capacity condition) refl
 
@@ -480,21 +532,22 @@ over_decided t seed P start keeps (suc n) v is =
 
 -- what holds of each who waits, and of whoever comes, holds of each who waits behind a step
 pub all_wait_on : (P Q : Waiter → Type 0) (s : Machine) (m : Move) (streams : List Stream) → AllByRecursion P s.retry →
-    AllByRecursion P (who_comes m s.active) → ((w : Waiter) → is_woken (written s m) w ≡ false → P w → Q w) →
+    AllByRecursion P (who_comes m s.active) → ((w : Waiter) → (Clears m → ⊥) → is_woken (written s m) w ≡ false → P w → Q w) →
     AllByRecursion Q (decided s m streams).retry
+all_wait_on P Q s moves.Clear streams all comes keeps = tt
 all_wait_on P Q s m streams all comes keeps =
-    subst (AllByRecursion Q) (sym (retry_decided s m streams)) (both s.retry all) where
+    subst (AllByRecursion Q) (sym (retry_decided s m streams (λ c. c))) (both s.retry all) where
       kept : (ws : List Waiter) → AllByRecursion P ws → AllByRecursion Q (filter (waits_on s m) ws)
       kept [] h = tt
       kept (w ∷ ws) h =
           let rest = kept ws h.1 in
-          elim (cases_Bool (is_woken (written s m) w)) [ inl is ↦ rw is rest | inr other ↦ rw other (keeps w other h.0, rest) ]
+          elim (cases_Bool (is_woken (written s m) w)) [ inl is ↦ rw is rest | inr other ↦ rw other (keeps w (λ c. c) other h.0, rest) ]
 
       both : (ws : List Waiter) → AllByRecursion P ws → AllByRecursion Q (filter (waits_on s m) ws ++ filter (waits_on s m) (who_comes m s.active))
       both [] h = kept (who_comes m s.active) comes
       both (w ∷ ws) h =
           let rest = both ws h.1 in
-          elim (cases_Bool (is_woken (written s m) w)) [ inl is ↦ rw is rest | inr other ↦ rw other (keeps w other h.0, rest) ]
+          elim (cases_Bool (is_woken (written s m) w)) [ inl is ↦ rw is rest | inr other ↦ rw other (keeps w (λ c. c) other h.0, rest) ]
 
 -- where its block is a GATE, its condition does not hold, and it waits for a change of the entity
 abbrev AtGate : Listing → Machine → Waiter → Type 0
@@ -523,13 +576,13 @@ gate_refused t seed s read r id b condition key goes there verb sort named =
     subst (λ o. result_of t seed (meet_prog s r.x r.id o r.before) ≡ Ok (moves.Watch read, r.after)) at r.tries in
     (gate_tried t seed s r.x r.id b condition verb sort).from r.before (moves.Watch read, r.after) tries key named
 
-gate_stays : (t : Listing) (s : Machine) (m : Move) (streams : List Stream) (w : Waiter) → is_woken (written s m) w ≡ false → AtGate t s w →
+gate_stays : (t : Listing) (s : Machine) (m : Move) (streams : List Stream) (w : Waiter) → (Clears m → ⊥) → is_woken (written s m) w ≡ false → AtGate t s w →
     AtGate t (decided s m streams) w
-gate_stays t s m streams w unread gate = λ id b condition key goes there verb sort named.
+gate_stays t s m streams w apart unread gate = λ id b condition key goes there verb sort named.
     (let h = gate id b condition key goes there verb sort named in
     let kind = kind_of_condition condition in
     let unwritten = unread_unwritten (written s m) w.read (watched.Entity kind key) unread h.1 in
-    (open_same s (decided s m streams) condition key (capacity_of t key) (moved_entity s m kind key unwritten) ∙ h.0, h.1))
+    (open_same s (decided s m streams) condition key (capacity_of t key) (moved_kept s m kind key apart unwritten) ∙ h.0, h.1))
 
 -- what is known of whoever comes, by what is known of the refusal
 pub who_comes_has : (P : Waiter → Type 0) (t : Listing) (seed : ℕ) (s : Machine) (m : Move) →
@@ -576,7 +629,7 @@ all_there : (t : Listing) (seed n : ℕ) (s : Machine) → run t seed n ≡ Ok s
 all_there t seed =
     over_decided t seed (λ n s. AllByRecursion (IsThere t) s.retry) tt
     (λ n s d there goes all. all_wait_on (IsThere t) (IsThere t) s d.0 d.1 all
-    (who_comes_has (IsThere t) t seed s d.0 (refused_there t seed s) (refused_at t seed s d goes)) (λ w unread is. is))
+    (who_comes_has (IsThere t) t seed s d.0 (refused_there t seed s) (refused_at t seed s d goes)) (λ w apart unread is. is))
 
 pub who_waits_is_at_a_test_or_a_gate : WhoWaitsIsAtATestOrAGate
 who_waits_is_at_a_test_or_a_gate t seed n s is w waits = all_stands (IsThere t) s.retry w (all_there t seed n s is) (stands_of s.retry w waits)

@@ -1,6 +1,6 @@
 -- Nobody but its owner gives a facility back, the first that waits has it then, and nobody but the active transaction
 -- takes a free one.
-use Rattle.std.proofs.Common.{◌≡◌, ℕ, suc, ◌⊎◌, true, false, ◌++◌, Option, Some, None, is_some, Ok, refl, sym, subst, ap, ◌∙◌, inl, inr}
+use Rattle.std.proofs.Common.{◌≡◌, ℕ, suc, ◌⊎◌, true, false, List, ◌++◌, Option, Some, None, is_some, Ok, refl, sym, subst, ap, ◌∙◌, inl, inr}
 use Rattle.std.proofs.lemmas.Bool.{cases_Bool, eqb-true}
 use Rattle.gw_names.specs.declared.key.Key.{Key}
 use Rattle.gw_names.specs.Keys.{key_eq}
@@ -26,6 +26,11 @@ use Rattle.gw_frame.proofs.Known.{IsDecidedDeed, IsDecidedChange, IsDecided}
 use Rattle.gw_frame.proofs.Moves.{settled_is, with_active_has, entered_has, picked_has}
 use Rattle.gw_laws.proofs.Waiting.{let_in_is}
 use Rattle.gw_laws.proofs.OwnerLaws.{owner_here, owner_there}
+use Rattle.gw_laws.proofs.Anew.{clears_or, no_clear, owner_reset}
+use Rattle.gw_laws.specs.Anew.{Clears, IsNoClear}
+use Rattle.gw_frame.proofs.Known.{IsAfter}
+use Rattle.gw_meaning.specs.Changes.{decided}
+use Rattle.gw_streams.specs.declared.stream.Stream.{Stream}
 
 -- what was tested of an owner
 no_owner : (o : Option ℕ) → is_some o ≡ false → o ≡ None
@@ -83,8 +88,8 @@ module _ (q : Key) where
   touched_passes t s x (changes.Entity change) active decided = done_passes t s x change.0 change.1 active decided
   touched_passes t s x change active decided = inl refl
 
-  moved_passes : (t : Listing) (s : Machine) (m : Move) → IsDecided t s m → Passes s (moved s m).entities
-  moved_passes t s (moves.Enter id change fate) decided =
+  moved_passes : (t : Listing) (s : Machine) (m : Move) → IsDecided t s m → (Clears m → ⊥) → Passes s (moved s m).entities
+  moved_passes t s (moves.Enter id change fate) decided apart =
       let P : Machine → Type 0 = λ v. Passes s v.entities in
       entered_has P P t s id change fate decided.1 (inl refl)
       (λ x is. subst (Passes s) (sym (settled_is s x id change fate).entities) (touched_passes t s x change is decided.1))
@@ -95,21 +100,27 @@ module _ (q : Key) where
         copies = λ w to x values copying h. h;
         unlinks = λ w key to x xs named is h. h;
       })
-  moved_passes t s (moves.Refuse id key units) decided =
+  moved_passes t s (moves.Refuse id key units) decided apart =
       with_active_has (λ v. Passes s v.entities) s.active (λ x. refused s x id key units) s (inl refl) (λ x is. inl refl)
-  moved_passes t s (moves.Watch read) decided =
+  moved_passes t s (moves.Watch read) decided apart =
       with_active_has (λ v. Passes s v.entities) s.active (λ x. watching s x read) s (inl refl) (λ x is. inl refl)
-  moved_passes t s moves.Pick decided = picked_has (λ v. Passes s v.entities) s s.current (inl refl) (λ x xs is. inl refl)
-  moved_passes t s m decided = inl refl
+  moved_passes t s moves.Pick decided apart = picked_has (λ v. Passes s v.entities) s s.current (inl refl) (λ x xs is. inl refl)
+  moved_passes t s moves.Reset decided apart = inl (owner_reset s q)
+  moved_passes t s moves.Clear decided apart = absurd (apart tt)
+  moved_passes t s m decided apart = inl refl
 
-  step_passes : (t : Listing) (seed n : ℕ) (s v : Machine) → run t seed n ≡ Ok s → run t seed (suc n) ≡ Ok v → Passes s v.entities
-  step_passes t seed n s v there is =
+  behind_passes : (t : Listing) (s v : Machine) (after : IsAfter t s v) → (Clears after.move → ⊥) → Passes s v.entities
+  behind_passes t s v after apart = subst (λ w. Passes s w.entities) (sym after.is) (moved_passes t s after.move after.is_decided apart)
+
+  step_passes : (t : Listing) (seed n : ℕ) (s v : Machine) → run t seed n ≡ Ok s → run t seed (suc n) ≡ Ok v → IsNoClear t s →
+      Passes s v.entities
+  step_passes t seed n s v there is none =
       let after = ((step_decides t seed s).runs v (sym (run_on t seed n s there) ∙ is)).0 in
-      subst (λ w. Passes s w.entities) (sym after.is) (moved_passes t s after.move after.is_decided)
+      behind_passes t s v after (no_clear t s after.move after.is_decided none)
 
 pub only_the_owner_gives_back : OnlyTheOwnerGivesBack
-only_the_owner_gives_back t seed n s v there is key number owned =
-    elim (step_passes key t seed n s v there is) [
+only_the_owner_gives_back t seed n s v there is none key number owned =
+    elim (step_passes key t seed n s v there is none) [
       | inl same ↦ inl (same ∙ owned)
       | inr passed ↦ elim passed.2 [
         | inl his ↦ inr (passed.0, passed.1, (let both : Some passed.0.number ≡ Some number = sym his.0 ∙ owned in cc))
@@ -118,8 +129,8 @@ only_the_owner_gives_back t seed n s v there is key number owned =
     ]
 
 pub the_first_is_given_it : TheFirstIsGivenIt
-the_first_is_given_it t seed n s v there is key number owned =
-    elim (step_passes key t seed n s v there is) [
+the_first_is_given_it t seed n s v there is none key number owned =
+    elim (step_passes key t seed n s v there is none) [
       | inl same ↦ inl (same ∙ owned)
       | inr passed ↦ elim passed.2 [
         | inl his ↦ inr his.1
@@ -129,10 +140,20 @@ the_first_is_given_it t seed n s v there is key number owned =
 
 pub only_the_active_takes : OnlyTheActiveTakes
 only_the_active_takes t seed n s v there is key number free taken =
-    elim (step_passes key t seed n s v there is) [
-      | inl same ↦ absurd (let no : None ≡ Some number = sym free ∙ (sym same ∙ taken) in cc)
-      | inr passed ↦ elim passed.2 [
-        | inl his ↦ absurd (let no : None ≡ Some passed.0.number = sym free ∙ his.0 in cc)
-        | inr took ↦ (passed.0, passed.1, (let both : Some passed.0.number ≡ Some number = sym took.1 ∙ taken in cc))
+    let after = ((step_decides t seed s).runs v (sym (run_on t seed n s there) ∙ is)).0 in
+    elim (clears_or after.move) [
+      | inl clears ↦ absurd (free_behind after.move after.streams after.is clears)
+      | inr apart ↦ elim (behind_passes key t s v after apart) [
+        | inl same ↦ absurd (let no : None ≡ Some number = sym free ∙ (sym same ∙ taken) in cc)
+        | inr passed ↦ elim passed.2 [
+          | inl his ↦ absurd (let no : None ≡ Some passed.0.number = sym free ∙ his.0 in cc)
+          | inr took ↦ (passed.0, passed.1, (let both : Some passed.0.number ≡ Some number = sym took.1 ∙ taken in cc))
+        ]
       ]
     ]
+  where
+    -- nobody takes a facility in a CLEAR
+    free_behind : (m : Move) (streams : List Stream) → v ≡ decided s m streams → Clears m → ⊥
+    free_behind moves.Clear streams same c =
+        let no : None ≡ Some number = ap (λ (w : Machine). (facility_at w.entities key).owner) (sym same) ∙ taken in cc
+    free_behind m streams same c = c

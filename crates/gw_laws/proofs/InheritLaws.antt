@@ -99,6 +99,7 @@ moved_once t s (moves.Enter id change fate) decided h =
 moved_once t s (moves.Refuse id key units) decided h = with_active_has ValuesAreOnce s.active (λ x. refused s x id key units) s h (λ x is. h)
 moved_once t s (moves.Watch read) decided h = with_active_has ValuesAreOnce s.active (λ x. watching s x read) s h (λ x is. h)
 moved_once t s moves.Pick decided h = picked_has ValuesAreOnce s s.current h (λ x xs is. h)
+moved_once t s moves.Clear decided h = tt
 moved_once t s m decided h = h
 
 all_once : (t : Listing) (seed n : ℕ) (s : Machine) → run t seed n ≡ Ok s → ValuesAreOnce s

@@ -18,6 +18,7 @@ asked_same (asking.Fits m) (asking.Fits n) h = ap (λ k. asking.Fits k) (eqb-tru
 asked_same asking.Storage asking.Storage h = refl
 asked_same asking.Variable asking.Variable h = refl
 asked_same asking.Function asking.Function h = refl
+asked_same asking.Table asking.Table h = refl
 asked_same a b h = absurd cc
 
 item_same : (a b : Item) → same_item a b ≡ true → a ≡ b

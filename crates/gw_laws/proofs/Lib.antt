@@ -5,6 +5,7 @@ pub mod Waking
 pub mod LettingIn
 pub mod Crowd
 pub mod Counts
+pub mod Anew
 pub mod Room
 pub mod ContentLaws
 pub mod NumberLaws
@@ -43,3 +44,4 @@ pub mod InheritLaws
 pub mod CopyComings
 pub mod WaitingTests
 pub mod WakingLaws
+pub mod AnewLaws

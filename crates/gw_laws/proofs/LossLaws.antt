@@ -17,6 +17,8 @@ use Rattle.gw_frame.proofs.Known.{IsDecided}
 use Rattle.gw_frame.proofs.Moves.{with_active_has, entered_has, picked_has}
 use Rattle.gw_laws.proofs.Crowd.{one, crowd, active_crowd, many_living, future_push, settled_crowd, refused_crowd, copied_crowd, unlinked_crowd, picked_crowd, advanced_crowd, watching_crowd, woken_crowd}
 use Rattle.gw_laws.proofs.NumberLaws.{has_number, lets_same, not_alive, alive}
+use Rattle.gw_laws.proofs.Anew.{crowd_reset, no_clear}
+use Rattle.gw_laws.specs.Anew.{Clears}
 
 module _ (k : ℕ) where
   -- a transaction with this number lives, or was the active one before
@@ -36,10 +38,12 @@ module _ (k : ℕ) where
   all_made_lives [] w s h = h
   all_made_lives (a ∷ rest) w s h = all_made_lives rest (made a w) s (made_lives a w s h)
 
-  moved_lives : (t : Listing) (s : Machine) (m : Move) → IsDecided t s m → Lives s → LivesOn s (moved s m)
-  moved_lives t s (moves.Start count arrivals) decided h = inl (all_made_lives arrivals (making_of s) (started count s) h)
-  moved_lives t s moves.Command decided h = inl h
-  moved_lives t s (moves.Enter id change fate) decided h =
+  moved_lives : (t : Listing) (s : Machine) (m : Move) → IsDecided t s m → (Clears m → ⊥) → Lives s → LivesOn s (moved s m)
+  moved_lives t s (moves.Start count arrivals) decided apart h = inl (all_made_lives arrivals (making_of s) (started count s) h)
+  moved_lives t s moves.Command decided apart h = inl h
+  moved_lives t s moves.Reset decided apart h = let same = crowd_reset (has_number k) s in inl (omega (arith, h, same))
+  moved_lives t s moves.Clear decided apart h = absurd (apart tt)
+  moved_lives t s (moves.Enter id change fate) decided apart h =
       entered_has (LivesOn s) (LivesOn s) t s id change fate decided.1 (inl h)
       (λ x is.
       elim (cases_eq x.number k) [
@@ -61,15 +65,15 @@ module _ (k : ℕ) where
             (let same = unlinked_crowd (has_number k) w key to x xs is refl in
             elim g [ inl here ↦ inl (omega (arith, same, here)) | inr was ↦ inr was ]);
       })
-  moved_lives t s (moves.Refuse id key units) decided h =
+  moved_lives t s (moves.Refuse id key units) decided apart h =
       with_active_has (LivesOn s) s.active (λ x. refused s x id key units) s (inl h)
       (λ x is. let same = refused_crowd (has_number k) s x id key units is refl in inl (omega (arith, h, same)))
-  moved_lives t s (moves.Watch read) decided h =
+  moved_lives t s (moves.Watch read) decided apart h =
       with_active_has (LivesOn s) s.active (λ x. watching s x read) s (inl h)
       (λ x is. let same = watching_crowd (has_number k) s x read is in inl (omega (arith, h, same)))
-  moved_lives t s moves.Pick decided h =
+  moved_lives t s moves.Pick decided apart h =
       picked_has (LivesOn s) s s.current (inl h) (λ x xs is. let same = picked_crowd (has_number k) s x xs decided is in inl (omega (arith, h, same)))
-  moved_lives t s (moves.Clock time) decided h = let same = advanced_crowd (has_number k) s time in inl (omega (arith, h, same))
+  moved_lives t s (moves.Clock time) decided apart h = let same = advanced_crowd (has_number k) s time in inl (omega (arith, h, same))
 
   woken_lives : (list : List Watched) (s v : Machine) → LivesOn s v → LivesOn s (woken list v)
   woken_lives list s v (inl here) = let same = woken_crowd (has_number k) list v in inl (omega (arith, same, here))
@@ -92,8 +96,9 @@ module _ (k : ℕ) where
       ]
 
 pub only_the_active_goes : OnlyTheActiveGoes
-only_the_active_goes t seed n s v there is k here =
+only_the_active_goes t seed n s v there is none k here =
     let after = ((step_decides t seed s).runs v (sym (run_on t seed n s there) ∙ is)).0 in
     let on : LivesOn k s v = subst (LivesOn k s) (sym after.is)
-    (woken_lives k (written s after.move) s (moved s after.move) (moved_lives k t s after.move after.is_decided (here_lives k s here))) in
+    (woken_lives k (written s after.move) s (moved s after.move) (moved_lives k t s after.move after.is_decided
+    (no_clear t s after.move after.is_decided none) (here_lives k s here))) in
     elim on [ inl lives' ↦ inl (lives_here k v lives') | inr was ↦ inr was ]

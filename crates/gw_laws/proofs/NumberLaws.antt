@@ -26,6 +26,9 @@ use Rattle.gw_frame.proofs.Running.{over_run, over_rest}
 use Rattle.gw_laws.proofs.Waiting.{let_in_as, let_in_number, let_in_is}
 use Rattle.gw_laws.proofs.Crowd.{one, many, crowd, many_living, future_push, settled_fewer, refused_crowd, lets_crowd, copied_crowd, unlinked_crowd, picked_crowd, advanced_crowd, watching_crowd, woken_crowd}
 use Rattle.gw_laws.proofs.Room.{all_within}
+use Rattle.gw_laws.proofs.Anew.{crowd_reset, no_clear}
+use Rattle.gw_meaning.specs.Changes.{reset}
+use Rattle.gw_laws.specs.Anew.{Clears}
 
 abbrev pub has_number : ℕ → Transaction → Bool
 has_number k x = nat_eq x.number k
@@ -121,6 +124,8 @@ moved_numbered : (t : Listing) (s : Machine) (m : Move) → s.next + length t.li
 moved_numbered t s (moves.Start count arrivals) room decided h =
     all_made_numbered arrivals (making_of s) (started count s) (omega (arith, room, decided.few)) (record { apart = h.apart; given = h.given })
 moved_numbered t s moves.Command room decided h = record { apart = h.apart; given = h.given }
+moved_numbered t s moves.Reset room decided h = same_numbered s (reset s) refl (λ k. let same = crowd_reset (has_number k) s in omega arith) h
+moved_numbered t s moves.Clear room decided h = record { apart = λ k. omega arith; given = λ k above. refl }
 moved_numbered t s (moves.Enter id change fate) room decided h =
     entered_has (λ v. (v.next ≡ s.next) × IsNumbered v) IsNumbered t s id change fate decided.1 h
     (λ x is. ((settled_is s x id change fate).next, settled_numbered s x id change fate is h))
@@ -248,12 +253,15 @@ module _ (k : ℕ) (test : Transaction → Bool) (of : IsOf k test) where
       (user_chain_at w.linked key).members ≡ x ∷ xs → IsGone w → IsGone (one_unlinked key to x xs w)
   unlinked_gone w key to x xs is h = let same = unlinked_crowd test w key to x xs is (of.goes x to) in (h.0, omega (arith, same, h.1))
 
-  pub moved_gone : (t : Listing) (s : Machine) (m : Move) → s.next + length t.lines + 100000 < 2 ^ 64 - 1 → IsDecided t s m → StaysSo s → IsGone s →
+  pub moved_gone : (t : Listing) (s : Machine) (m : Move) → s.next + length t.lines + 100000 < 2 ^ 64 - 1 → IsDecided t s m → (Clears m → ⊥) → StaysSo s →
+      IsGone s →
       IsGone (moved s m)
-  moved_gone t s (moves.Start count arrivals) room decided stays h =
+  moved_gone t s (moves.Start count arrivals) room decided apart stays h =
       all_made_gone arrivals (making_of s) (started count s) (omega (arith, room, decided.few)) h
-  moved_gone t s moves.Command room decided stays h = h
-  moved_gone t s (moves.Enter id change fate) room decided stays h =
+  moved_gone t s moves.Command room decided apart stays h = h
+  moved_gone t s moves.Reset room decided apart stays h = let same = crowd_reset test s in (h.0, omega (arith, same, h.1))
+  moved_gone t s moves.Clear room decided apart stays h = absurd (apart tt)
+  moved_gone t s (moves.Enter id change fate) room decided apart stays h =
       entered_has (λ v. (v.next ≡ s.next) × IsGone v) IsGone t s id change fate decided.1 h
       (λ x is.
       let v = settled s x id change fate in
@@ -267,15 +275,15 @@ module _ (k : ℕ) (test : Transaction → Bool) (of : IsOf k test) where
         copies = λ w to x values copying g. copied_gone to x values w (omega (arith, room, copying.below)) g;
         unlinks = λ w key to x xs named is g. unlinked_gone w key to x xs is g;
       })
-  moved_gone t s (moves.Refuse id key units) room decided stays h =
+  moved_gone t s (moves.Refuse id key units) room decided apart stays h =
       with_active_has IsGone s.active (λ x. refused s x id key units) s h
       (λ x is. let same = refused_crowd test s x id key units is (of.waits x id units) in (h.0, omega (arith, same, h.1)))
-  moved_gone t s (moves.Watch read) room decided stays h =
+  moved_gone t s (moves.Watch read) room decided apart stays h =
       with_active_has IsGone s.active (λ x. watching s x read) s h
       (λ x is. let same = watching_crowd test s x read is in (h.0, omega (arith, same, h.1)))
-  moved_gone t s moves.Pick room decided stays h =
+  moved_gone t s moves.Pick room decided apart stays h =
       picked_has IsGone s s.current h (λ x xs is. let same = picked_crowd test s x xs decided is in (h.0, omega (arith, same, h.1)))
-  moved_gone t s (moves.Clock time) room decided stays h = let same = advanced_crowd test s time in (h.0, omega (arith, same, h.1))
+  moved_gone t s (moves.Clock time) room decided apart stays h = let same = advanced_crowd test s time in (h.0, omega (arith, same, h.1))
 
   pub woken_gone : (list : List Watched) (s : Machine) → IsGone s → IsGone (woken list s)
   woken_gone list s h = let same = woken_crowd test list s in (h.0, omega (arith, same, h.1))
@@ -299,14 +307,18 @@ module _ (k : ℕ) where
       ]
 
 pub numbers_are_given_once : NumbersAreGivenOnce
-numbers_are_given_once t seed m n s v well before within there is k given gone =
+numbers_are_given_once t seed m n s v well before within there is none k given gone =
     let Gone : Machine → Type 0 = IsGone k (has_number k) (of_number k) in
     let start : Gone s = (given, sym (many_living (has_number k) s) ∙ not_alive k (living s) gone) in
     let rest =
-    over_rest t seed (λ i u. i ≤ t.limit → Gone u) m s there (λ early. start)
-    (λ i u move streams at decided h early.
-    let room = all_within t seed i u well (omega (arith, early)) at in
-    woken_gone k (has_number k) (of_number k) (written u move) (moved u move)
-    (moved_gone k (has_number k) (of_number k) t u move (omega (arith, room.next, early, well.greatest_limit, well.statements)) decided
-    (λ x change id is. ap (λ n. nat_eq n k) (marked_same change u.clock (placed x id)).0) (h (omega arith)))) n v before is within in
-    alive k (living v) (many_living (has_number k) v ∙ rest.1)
+    over_rest t seed (λ i u. (m ≤ i) × (i ≤ n → Gone u)) m s there (omega arith, λ early. start)
+    (λ i u move streams at decided h. (
+      omega (arith, h.0),
+      λ early.
+          let room = all_within t seed i u well (omega (arith, early, within)) at in
+          let apart = no_clear t u move decided (none i u h.0 (omega (arith, early)) at) in
+          woken_gone k (has_number k) (of_number k) (written u move) (moved u move)
+          (moved_gone k (has_number k) (of_number k) t u move (omega (arith, room.next, early, within, well.greatest_limit, well.statements)) decided apart
+          (λ x change id is. ap (λ n. nat_eq n k) (marked_same change u.clock (placed x id)).0) (h.1 (omega (arith, early)))),
+    )) n v before is in
+    alive k (living v) (many_living (has_number k) v ∙ (rest.1 (omega arith)).1)

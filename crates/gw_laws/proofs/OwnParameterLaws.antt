@@ -31,6 +31,11 @@ use Rattle.gw_laws.proofs.NumberLaws.{has_number, IsNumbered, of_number, IsGone,
 use Rattle.gw_laws.proofs.Room.{all_within, all_low}
 use Rattle.gw_laws.proofs.Waiting.{leaving}
 use Rattle.gw_laws.proofs.ParameterLaws.{Values, let_in_parameters}
+use Rattle.gw_laws.proofs.Anew.{clears_or, no_clear, nobody_lives}
+use Rattle.gw_laws.specs.Anew.{Clears}
+use Rattle.gw_frame.proofs.Known.{IsAfter}
+use Rattle.gw_laws.specs.Numbering.{lives}
+use Rattle.std.specs.List.{list_any}
 
 -- ---- where the parameters of one transaction are set or forgotten, those of the others stay
 
@@ -101,8 +106,9 @@ module _ (k : ℕ) where
       ∙ change_elsewhere k x.number change s.parameters not_his
   settled_elsewhere s x id change fate other = change_elsewhere k x.number change s.parameters (ne_eqb k x.number (λ is. other (sym is)))
 
-  pub moved_elsewhere : (t : Listing) (s : Machine) (m : Move) → s.next < 2 ^ 64 → k < s.next → IsDecided t s m → KeepsParameters s (moved s m)
-  moved_elsewhere t s (moves.Enter id change fate) low given decided =
+  pub moved_elsewhere : (t : Listing) (s : Machine) (m : Move) → s.next < 2 ^ 64 → k < s.next → IsDecided t s m → (Clears m → ⊥) →
+      KeepsParameters s (moved s m)
+  moved_elsewhere t s (moves.Enter id change fate) low given decided apart =
       entered_has (KeepsParameters s) (KeepsParameters s) t s id change fate decided.1 (inl refl)
       (λ x is.
       elim (cases_eq x.number k) [
@@ -122,17 +128,19 @@ module _ (k : ℕ) where
         ];
         unlinks = λ w key to x xs named is g. g;
       })
-  moved_elsewhere t s (moves.Refuse id key units) low given decided =
+  moved_elsewhere t s (moves.Refuse id key units) low given decided apart =
       with_active_has (KeepsParameters s) s.active (λ x. refused s x id key units) s (inl refl) (λ x is. inl refl)
-  moved_elsewhere t s (moves.Watch read) low given decided =
+  moved_elsewhere t s (moves.Watch read) low given decided apart =
       with_active_has (KeepsParameters s) s.active (λ x. watching s x read) s (inl refl) (λ x is. inl refl)
-  moved_elsewhere t s moves.Pick low given decided = picked_has (KeepsParameters s) s s.current (inl refl) (λ x xs is. inl refl)
-  moved_elsewhere t s m low given decided = inl refl
+  moved_elsewhere t s moves.Pick low given decided apart = picked_has (KeepsParameters s) s s.current (inl refl) (λ x xs is. inl refl)
+  moved_elsewhere t s moves.Clear low given decided apart = absurd (apart tt)
+  moved_elsewhere t s m low given decided apart = inl refl
 
 pub parameters_are_ones_own : ParametersAreOnesOwn
-parameters_are_ones_own t seed n s v there is k given =
+parameters_are_ones_own t seed n s v there is none k given =
     let after = ((step_decides t seed s).runs v (sym (run_on t seed n s there) ∙ is)).0 in
-    subst (KeepsParameters k s) (sym after.is) (moved_elsewhere k t s after.move (all_low t seed n s there) given after.is_decided)
+    subst (KeepsParameters k s) (sym after.is) (moved_elsewhere k t s after.move (all_low t seed n s there) given after.is_decided
+    (no_clear t s after.move after.is_decided none))
 
 -- ---- of one transaction, one parameter is set at most
 
@@ -211,9 +219,9 @@ module _ (k : ℕ) where
   unlinked_sets s w key to x xs is (inl sets) = inl sets
   unlinked_sets s w key to x xs is (inr gone) = inr (unlinked_gone k (has_number k) (of_number k) w key to x xs is gone)
 
-  moved_sets : (t : Listing) (s : Machine) (m : Move) → s.next + 100000 < 2 ^ 64 - 1 → k < s.next → IsDecided t s m → IsNumbered s →
-      SetsOne s (moved s m)
-  moved_sets t s (moves.Enter id change fate) room given decided h =
+  moved_sets : (t : Listing) (s : Machine) (m : Move) → s.next + 100000 < 2 ^ 64 - 1 → k < s.next → IsDecided t s m → (Clears m → ⊥) →
+      IsNumbered s → SetsOne s (moved s m)
+  moved_sets t s (moves.Enter id change fate) room given decided apart h =
       entered_has (λ v. (v.next ≡ s.next) × SetsOne s v) (SetsOne s) t s id change fate decided.1 (inl (inl refl))
       (λ x is. ((settled_is s x id change fate).next, settled_sets s x id change fate is h))
       (λ v. record {
@@ -226,12 +234,13 @@ module _ (k : ℕ) where
         copies = λ w to x values copying g. copied_sets t s w to x values room given copying g;
         unlinks = λ w key to x xs named is g. unlinked_sets s w key to x xs is g;
       })
-  moved_sets t s (moves.Refuse id key units) room given decided h =
+  moved_sets t s (moves.Refuse id key units) room given decided apart h =
       with_active_has (SetsOne s) s.active (λ x. refused s x id key units) s (inl (inl refl)) (λ x is. inl (inl refl))
-  moved_sets t s (moves.Watch read) room given decided h =
+  moved_sets t s (moves.Watch read) room given decided apart h =
       with_active_has (SetsOne s) s.active (λ x. watching s x read) s (inl (inl refl)) (λ x is. inl (inl refl))
-  moved_sets t s moves.Pick room given decided h = picked_has (SetsOne s) s s.current (inl (inl refl)) (λ x xs is. inl (inl refl))
-  moved_sets t s m room given decided h = inl (inl refl)
+  moved_sets t s moves.Pick room given decided apart h = picked_has (SetsOne s) s s.current (inl (inl refl)) (λ x xs is. inl (inl refl))
+  moved_sets t s moves.Clear room given decided apart h = absurd (apart tt)
+  moved_sets t s m room given decided apart h = inl (inl refl)
 
   woken_sets : (list : List Watched) (s v : Machine) → SetsOne s v → SetsOne s (woken list v)
   woken_sets list s v (inl sets) = inl sets
@@ -240,12 +249,22 @@ module _ (k : ℕ) where
 pub one_parameter_is_set : OneParameterIsSet
 one_parameter_is_set t seed n s v well within there is k given lives' =
     let after = ((step_decides t seed s).runs v (sym (run_on t seed n s there) ∙ is)).0 in
-    let room = all_within t seed n s well within there in
-    let sets =
-    woken_sets k (written s after.move) s (moved s after.move)
-    (moved_sets k t s after.move (omega (arith, room.next, within, well.greatest_limit)) given after.is_decided
-    (all_numbered t seed well n s there within)) in
-    elim (subst (SetsOne k s) (sym after.is) sets) [
-      | inl one' ↦ one'
-      | inr gone ↦ absurd (let no = alive k (living v) (many_living (has_number k) v ∙ gone.1) in false≢true (sym no ∙ lives'))
+    elim (clears_or after.move) [
+      | inl clears ↦ absurd (
+          let none = nobody_lives s v after.move after.streams after.is clears in
+          let no : lives v k ≡ false = ap (λ xs. list_any (has_number k) xs) none in
+          false≢true (sym no ∙ lives'))
+      | inr apart ↦ go after apart
     ]
+  where
+    go : (after : IsAfter t s v) → (Clears after.move → ⊥) → SetsAtMostOne (values_at s.parameters k) (values_at v.parameters k)
+    go after apart =
+        let room = all_within t seed n s well within there in
+        let sets =
+        woken_sets k (written s after.move) s (moved s after.move)
+        (moved_sets k t s after.move (omega (arith, room.next, within, well.greatest_limit)) given after.is_decided apart
+        (all_numbered t seed well n s there within)) in
+        elim (subst (SetsOne k s) (sym after.is) sets) [
+          | inl one' ↦ one'
+          | inr gone ↦ absurd (let no = alive k (living v) (many_living (has_number k) v ∙ gone.1) in false≢true (sym no ∙ lives'))
+        ]

@@ -15,6 +15,7 @@ use Rattle.gw_frame.proofs.Moves.{marked_same}
 use Rattle.gw_laws.proofs.Crowd.{one, many, many_has, crowd, many_living, woken_crowd}
 use Rattle.gw_laws.proofs.NumberLaws.{has_number, IsNumbered, IsOf, StaysSo, moved_gone, all_numbered}
 use Rattle.gw_laws.proofs.Room.{all_within}
+use Rattle.gw_laws.proofs.Anew.{clears_or, nobody_lives, nobody_in}
 
 -- of those who pass a test some pass another one, and some do not
 both_parts : (a b : Bool) → one (a && b) + one (a && not b) ≡ one a
@@ -122,14 +123,17 @@ priorities_are_ones_own t seed n s v well within there is x y lived lives' same 
     let after = ((step_decides t seed s).runs v (sym (run_on t seed n s there) ∙ is)).0 in
     let h = all_numbered t seed well n s there within in
     let room = all_within t seed n s well within there in
-    elim (beside_or_active x s) [
-      | inl beside ↦
-          let gone =
-          moved_gone x.number (other_one x) (of_other x) t s after.move
-          (omega (arith, room.next, within, well.greatest_limit, well.statements)) after.is_decided
-          (stays_other x s beside) (is_given x s h lived, none_other x s h lived) in
-          let none : crowd (other_one x) v ≡ 0 = ap (crowd (other_one x)) after.is
-          ∙ (woken_crowd (other_one x) (written s after.move) (moved s after.move) ∙ gone.1) in
-          inl (has_both x v y none lives' same)
-      | inr was ↦ inr was
+    elim (clears_or after.move) [
+      | inl clears ↦ absurd (nobody_in y (living v) (nobody_lives s v after.move after.streams after.is clears) lives')
+      | inr apart ↦ elim (beside_or_active x s) [
+        | inl beside ↦
+            let gone =
+            moved_gone x.number (other_one x) (of_other x) t s after.move
+            (omega (arith, room.next, within, well.greatest_limit, well.statements)) after.is_decided apart
+            (stays_other x s beside) (is_given x s h lived, none_other x s h lived) in
+            let none : crowd (other_one x) v ≡ 0 = ap (crowd (other_one x)) after.is
+            ∙ (woken_crowd (other_one x) (written s after.move) (moved s after.move) ∙ gone.1) in
+            inl (has_both x v y none lives' same)
+        | inr was ↦ inr was
+      ]
     ]

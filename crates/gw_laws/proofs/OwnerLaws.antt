@@ -40,6 +40,8 @@ use Rattle.gw_laws.proofs.Waiting.{leaving, let_in_is, lined_has}
 use Rattle.gw_laws.proofs.LettingIn.{set_here, set_there, set_has, no_storage, others_stay, entering_has}
 use Rattle.gw_laws.proofs.DelayLaws.{AreBound, AllAreBound, delay_bound, all_bound}
 use Rattle.gw_laws.proofs.Waking.{all_lined_keeps}
+use Rattle.gw_laws.proofs.Anew.{no_clear, owner_reset}
+use Rattle.gw_laws.specs.Anew.{Clears}
 
 -- the owner of a facility that is set, and of the others
 pub owner_here : (e : Entities) (key q : Key) (f : Ownership) → key_eq q key ≡ true →
@@ -120,20 +122,23 @@ module _ (q : Key) where
       nobody s (refused s x id key units)
       (set_has R (λ xs. omega arith) s.delays q key (lined_up (bound x id units) (delay_at s.delays key)) (omega arith))
 
-  moved_lets : (t : Listing) (s : Machine) (m : Move) → is_storage q ≡ false → IsDecided t s m → AllAreBound s → LetsIn s (moved s m)
-  moved_lets t s (moves.Start count arrivals) facility decided all = same_chains s (moved s (moves.Start count arrivals)) refl
-  moved_lets t s moves.Command facility decided all = same_chains s (moved s moves.Command) refl
-  moved_lets t s (moves.Enter id change fate) facility decided all =
+  moved_lets : (t : Listing) (s : Machine) (m : Move) → is_storage q ≡ false → IsDecided t s m → (Clears m → ⊥) →
+      AllAreBound s → LetsIn s (moved s m)
+  moved_lets t s (moves.Start count arrivals) facility decided apart all = same_chains s (moved s (moves.Start count arrivals)) refl
+  moved_lets t s moves.Command facility decided apart all = same_chains s (moved s moves.Command) refl
+  moved_lets t s moves.Reset facility decided apart all = same_chains s (moved s moves.Reset) refl
+  moved_lets t s moves.Clear facility decided apart all = absurd (apart tt)
+  moved_lets t s (moves.Enter id change fate) facility decided apart all =
       with_active_has (LetsIn s) s.active (λ x. entering s x id change fate) s (same_chains s s refl)
       (λ x is. entering_has (LetsIn s) t s x id change fate decided.1 (λ v chains entities. same_chains s v chains)
       (λ v key deed chains entities does. deed_lets t s v key deed x.number facility chains entities does all))
-  moved_lets t s (moves.Refuse id key units) facility decided all =
+  moved_lets t s (moves.Refuse id key units) facility decided apart all =
       with_active_has (LetsIn s) s.active (λ x. refused s x id key units) s (same_chains s s refl) (λ x is. refused_lets s x id key units)
-  moved_lets t s (moves.Watch read) facility decided all =
+  moved_lets t s (moves.Watch read) facility decided apart all =
       with_active_has (LetsIn s) s.active (λ x. watching s x read) s (same_chains s s refl) (λ x is. same_chains s (watching s x read) refl)
-  moved_lets t s moves.Pick facility decided all =
+  moved_lets t s moves.Pick facility decided apart all =
       picked_has (LetsIn s) s s.current (same_chains s s refl) (λ x xs is. same_chains s (picked s (x ∷ xs)) refl)
-  moved_lets t s (moves.Clock time) facility decided all = same_chains s (moved s (moves.Clock time)) refl
+  moved_lets t s (moves.Clock time) facility decided apart all = same_chains s (moved s (moves.Clock time)) refl
 
   woken_lets : (list : List Watched) (s v : Machine) (streams : List Stream) → LetsIn s v → LetsIn s (record (woken list v) { streams = streams })
   woken_lets list s v streams h less =
@@ -148,10 +153,11 @@ module _ (q : Key) where
       }
 
 pub first_takes_over : FirstTakesOver
-first_takes_over t seed n s v there is key facility =
+first_takes_over t seed n s v there is none key facility =
     let after = ((step_decides t seed s).runs v (sym (run_on t seed n s there) ∙ is)).0 in
     subst (LetsIn key s) (sym after.is)
-    (woken_lets key (written s after.move) s (moved s after.move) after.streams (moved_lets key t s after.move facility after.is_decided (all_bound t seed n s there)))
+    (woken_lets key (written s after.move) s (moved s after.move) after.streams (moved_lets key t s after.move facility after.is_decided
+    (no_clear t s after.move after.is_decided none) (all_bound t seed n s there)))
 
 -- ---- nobody waits at a free facility
 
@@ -237,6 +243,8 @@ refused_free t s x id key units refuses h q facility free =
 moved_free : (t : Listing) (s : Machine) (m : Move) → IsDecided t s m → NobodyWaits s → NobodyWaits (moved s m)
 moved_free t s (moves.Start count arrivals) decided h = h
 moved_free t s moves.Command decided h = h
+moved_free t s moves.Reset decided h = λ q facility free. h q facility (sym (owner_reset s q) ∙ free)
+moved_free t s moves.Clear decided h = λ q facility free. refl
 moved_free t s (moves.Enter id change fate) decided h =
     entered_has NobodyWaits NobodyWaits t s id change fate decided.1 h (λ x is. settled_free t s x id change fate decided.1 h)
     (λ v. record {

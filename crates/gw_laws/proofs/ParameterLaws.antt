@@ -27,6 +27,7 @@ use Rattle.gw_laws.proofs.Crowd.{one, remains, active_crowd, settled_crowd, refu
 use Rattle.gw_laws.proofs.NumberLaws.{has_number, lets_same}
 use Rattle.gw_laws.proofs.Waiting.{leaving}
 use Rattle.gw_laws.proofs.LossLaws.{Lives, made_lives, all_made_lives, lives_here}
+use Rattle.gw_laws.proofs.Anew.{crowd_reset}
 
 abbrev pub Values : Type 0
 Values = List (Key × ℤ)
@@ -188,6 +189,9 @@ moved_kept : (t : Listing) (s : Machine) (m : Move) → IsDecided t s m → AreK
 moved_kept t s (moves.Start count arrivals) decided h =
     same_kept s (moved s (moves.Start count arrivals)) refl (λ k lived. all_made_lives k arrivals (making_of s) (started count s) lived) h
 moved_kept t s moves.Command decided h = same_kept s (moved s moves.Command) refl (λ k lived. lived) h
+moved_kept t s moves.Reset decided h =
+    same_kept s (moved s moves.Reset) refl (λ k lived. let same = crowd_reset (has_number k) s in omega arith) h
+moved_kept t s moves.Clear decided h = record { alive = λ k some. absurd (omega arith) }
 moved_kept t s (moves.Enter id change fate) decided h =
     entered_has AreKept AreKept t s id change fate decided.1 h (λ x is. settled_kept s x id change is h fate)
     (λ v. record {

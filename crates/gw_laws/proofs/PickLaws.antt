@@ -102,6 +102,8 @@ module _ (t : Listing) (seed : ℕ) (s : Machine) where
   command_had (Some (commands.Start count)) d is = start_had s.primed count d is
   command_had (Some (commands.Rmult values)) d is =
       let same : moves.Command ≡ d.0 = cc in subst HadTo same (stood moves.Command refl)
+  command_had (Some commands.Reset) d is = let same : moves.Reset ≡ d.0 = cc in subst HadTo same (stood moves.Reset refl)
+  command_had (Some commands.Clear) d is = let same : moves.Clear ≡ d.0 = cc in subst HadTo same (λ less. absurd (omega (arith, less)))
 
   clock_had : (time : Option ℕ) (d : Move × List Stream) → least_time s.future ≡ time → 1 ≤ s.remaining → s.active ≡ None → s.current ≡ [] →
       result_of t seed (clock_prog time s.streams) ≡ Ok d → HadTo d.0

@@ -29,6 +29,7 @@ use Rattle.gw_laws.proofs.Waiting.{let_in_is}
 use Rattle.gw_laws.proofs.Crowd.{many, many_has, many_append, active_many, many_active, future_many, many_future, crowd}
 use Rattle.gw_laws.proofs.NumberLaws.{has_number, all_numbered}
 use Rattle.gw_laws.specs.Living.{living}
+use Rattle.gw_laws.proofs.Anew.{members_anew}
 
 -- ---- in no other place
 
@@ -172,6 +173,8 @@ settled_once s x id change (fates.Destroyed count) h = h
 moved_once : (t : Listing) (s : Machine) (m : Move) → IsDecided t s m → ChainsAreOnce s → ChainsAreOnce (moved s m)
 moved_once t s (moves.Start count arrivals) decided h = h
 moved_once t s moves.Command decided h = h
+moved_once t s moves.Reset decided h = (h.0, subst AreOnce (sym (members_anew s.linked)) h.1)
+moved_once t s moves.Clear decided h = (tt, tt)
 moved_once t s (moves.Enter id change fate) decided h =
     entered_has ChainsAreOnce ChainsAreOnce t s id change fate decided.1 h (λ x is. settled_once s x id change fate h)
     (λ v. record {

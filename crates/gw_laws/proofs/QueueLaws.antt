@@ -20,7 +20,10 @@ use Rattle.gw_frame.proofs.Running.{over_run}
 use Rattle.gw_laws.specs.Queues.{IsWithin, QueuesAreWithin}
 use Rattle.gw_laws.proofs.Entries.{Each, at_has, with_has}
 use Rattle.gw_laws.proofs.Waiting.{let_in_is}
-use Rattle.gw_laws.proofs.ClockLaws.{IsInTime, moved_goes_on}
+use Rattle.gw_laws.proofs.ClockLaws.{IsInTime, moved_goes_on, moved_in_time}
+use Rattle.gw_laws.specs.Anew.{Clears}
+use Rattle.gw_meaning.specs.Entities.{all_anew}
+use Rattle.gw_entities.specs.Records.{queue_anew}
 
 abbrev AreWithin : ℕ → List (Key × Line) → Type 0
 AreWithin clock = Each (IsWithin clock)
@@ -88,11 +91,27 @@ later_within clock later (q ∷ qs) on all = (
   later_within clock later qs on all.1,
 )
 
+-- counted anew
+anew_within : (clock : ℕ) (qs : List (Key × Line)) → AreWithin clock qs → AreWithin clock (all_anew (queue_anew clock) qs)
+anew_within clock [] all = tt
+anew_within clock (q ∷ qs) all = (
+  record {
+    entries = omega arith;
+    zero_entries = omega arith;
+    greatest = all.0.content;
+    content = all.0.content;
+    at = omega arith;
+  },
+  anew_within clock qs all.1,
+)
+
 -- each move
-moved_within : (t : Listing) (s : Machine) (m : Move) → IsDecided t s m → s.clock ≤ (moved s m).clock → AreWithin s.clock s.entities.queues →
+moved_within : (t : Listing) (s : Machine) (m : Move) → IsDecided t s m → ((Clears m → ⊥) → s.clock ≤ (moved s m).clock) → AreWithin s.clock s.entities.queues →
     AreWithin (moved s m).clock (moved s m).entities.queues
 moved_within t s (moves.Start count arrivals) decided on all = all
 moved_within t s moves.Command decided on all = all
+moved_within t s moves.Reset decided on all = anew_within s.clock s.entities.queues all
+moved_within t s moves.Clear decided on all = tt
 moved_within t s (moves.Enter id change fate) decided on all =
     let P : Machine → Type 0 = λ v. AreWithin v.clock v.entities.queues in
     entered_has P P t s id change fate decided.1 all
@@ -110,11 +129,14 @@ moved_within t s (moves.Watch read) decided on all =
     with_active_has (λ v. AreWithin v.clock v.entities.queues) s.active (λ x. watching s x read) s all (λ x is. all)
 moved_within t s moves.Pick decided on all =
     picked_has (λ v. AreWithin v.clock v.entities.queues) s s.current all (λ x xs is. all)
-moved_within t s (moves.Clock time) decided on all = later_within s.clock time s.entities.queues on all
+moved_within t s (moves.Clock time) decided on all = later_within s.clock time s.entities.queues (on (λ c. c)) all
 
 -- over a run
 pub queues_are_within : QueuesAreWithin
 queues_are_within t seed n s is =
     All-from_recursion (λ (q : Key × Line). IsWithin s.clock q.1) s.entities.queues
     (over_run t seed (λ n v. IsInTime t v × AreWithin v.clock v.entities.queues) ((omega arith, tt), tt)
-    (λ n v m streams there decided h. (let goes = moved_goes_on t v m decided h.0 in (goes.1, moved_within t v m decided goes.0 h.1))) n s is).1
+    (λ n v m streams there decided h. (
+      moved_in_time t v m decided h.0,
+      moved_within t v m decided (λ apart. (moved_goes_on t v m decided apart h.0).0) h.1,
+    )) n s is).1

@@ -14,6 +14,7 @@ use Rattle.gw_frame.proofs.Moves.{settled, settled_is, with_active_has, entered_
 use Rattle.gw_frame.proofs.Running.{over_run}
 use Rattle.gw_laws.proofs.Waiting.{let_in_is}
 use Rattle.gw_laws.proofs.Crowd.{crowd, future_push, settled_fewer, refused_crowd, lets_crowd, copied_crowd, unlinked_crowd, picked_crowd, advanced_crowd, watching_crowd, woken_crowd}
+use Rattle.gw_laws.proofs.Anew.{crowd_reset}
 
 abbrev pub anyone : Transaction → Bool
 anyone x = true
@@ -53,6 +54,10 @@ moved_within t s (moves.Start count arrivals) most room few decided h =
     within_more (most + length arrivals) (most + 100000) (moved s (moves.Start count arrivals)) (omega (arith, few, decided.few))
     (all_made_within most arrivals (making_of s) (started count s) (omega (arith, room, few, decided.few)) first)
 moved_within t s moves.Command most room few decided h = record { next = omega (arith, h.next); crowd = omega (arith, h.crowd) }
+moved_within t s moves.Reset most room few decided h =
+    let same = crowd_reset anyone s in
+    record { next = omega (arith, h.next); crowd = omega (arith, same, h.crowd) }
+moved_within t s moves.Clear most room few decided h = record { next = omega arith; crowd = omega arith }
 moved_within t s (moves.Enter id change fate) most room few decided h =
     entered_has (IsWithin most) (IsWithin (most + 100000)) t s id change fate decided.1 (within_more most (most + 100000) s (omega arith) h)
     (λ x is. same_within most s (settled s x id change fate) (settled_is s x id change fate).next (settled_fewer anyone s x id change fate is refl) h)
@@ -111,6 +116,8 @@ IsLow s = s.next < 2 ^ 64
 moved_low : (t : Listing) (s : Machine) (m : Move) → IsDecided t s m → IsLow s → IsLow (moved s m)
 moved_low t s (moves.Start count arrivals) decided h = all_made_low arrivals (making_of s) h
 moved_low t s moves.Command decided h = h
+moved_low t s moves.Reset decided h = h
+moved_low t s moves.Clear decided h = omega arith
 moved_low t s (moves.Enter id change fate) decided h =
     entered_has IsLow IsLow t s id change fate decided.1 h (λ x is. rw (settled_is s x id change fate).next h)
     (λ v. record {

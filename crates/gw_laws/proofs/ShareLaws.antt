@@ -31,6 +31,7 @@ use Rattle.gw_laws.proofs.Entries.{at_with}
 use Rattle.gw_laws.proofs.Waiting.{lined_all}
 use Rattle.gw_laws.proofs.LettingIn.{set_here, set_there, others_stay, entities_stay, entering_has}
 use Rattle.gw_laws.proofs.StorageLaws.{no_room, goes_out, one_name, store_sound, all_kept}
+use Rattle.gw_laws.proofs.Anew.{storage_reset}
 
 -- there is no room for any of these beside so many units
 abbrev AllWait : Listing → List ℕ → ℕ → List Transaction → Type 0
@@ -231,6 +232,9 @@ refused_room t s x id (keys.Named name) units refuses h q =
 moved_room : (t : Listing) (s : Machine) (m : Move) → IsDecided t s m → AreCounted s → NobodyHasRoom t s → NobodyHasRoom t (moved s m)
 moved_room t s (moves.Start count arrivals) decided counted h = h
 moved_room t s moves.Command decided counted h = h
+moved_room t s moves.Reset decided counted h =
+    λ q. subst (λ content. AllWait t q content (delay_at s.delays (keys.Defined q))) (sym (storage_reset s (keys.Defined q))) (h q)
+moved_room t s moves.Clear decided counted h = λ q. tt
 moved_room t s (moves.Enter id change fate) decided counted h =
     with_active_has (NobodyHasRoom t) s.active (λ x. entering s x id change fate) s h
     (λ x is. entering_has (NobodyHasRoom t) t s x id change fate decided.1

@@ -1,5 +1,5 @@
 -- The STARTs that are complete and the one under way, move by move and over a run.
-use Rattle.std.proofs.Common.{◌≡◌, ℕ, zero, suc, ◌+◌, ◌-◌, ◌≤◌, nat_lt, false, List, [], ◌∷◌, ◌++◌, Option, Some, None, Ok, refl, ap, sym, ◌∙◌, arith, inl, inr, take, filter, filter_map, length, slice_get, get_or}
+use Rattle.std.proofs.Common.{◌≡◌, ℕ, zero, suc, ◌+◌, ◌-◌, ◌≤◌, nat_lt, false, List, [], ◌∷◌, ◌++◌, Option, Some, None, Ok, refl, ap, sym, subst, ◌∙◌, arith, inl, inr, take, filter, filter_map, length, slice_get, get_or}
 use Rattle.std.specs.List.{cons_option}
 use Rattle.std.proofs.lemmas.Bool.{cases_Bool}
 use Rattle.std.proofs.lemmas.Bool.Decides.{nat_tests}
@@ -22,7 +22,7 @@ use Rattle.gw_model.specs.Well.{Well}
 use Rattle.gw_frame.proofs.Moves.{settled, LetsIn, with_active_has, picked_has}
 use Rattle.gw_laws.specs.Starts.{starts_among, under_way, StartsHaveCounts, StartsAreDoneInOrder, NoMoreStartsThanThereAre}
 use Rattle.gw_laws.proofs.Crowd.{one}
-use Rattle.gw_laws.proofs.Tried.{IsCommand, IsScan, IsNext, no_start, no_command, changed_keeps, over_moves}
+use Rattle.gw_laws.proofs.Tried.{IsCommand, IsScan, IsNext, no_start, no_command, no_reset, no_clear_scanned, changed_keeps, over_moves}
 use Rattle.gw_laws.proofs.Waiting.{leaving}
 
 -- the first so many of a list, and one more
@@ -120,14 +120,23 @@ module _ (t : Listing) (well : Well t) where
         none = h.none;
       })
 
+  -- a CLEAR, behind which no START is under way, as before it
+  cleared_done : (s : Machine) → s.remaining ≡ 0 → command_at t (raised s.commands) ≡ Some commands.Clear → Done s →
+      AreDone t (raised s.commands) s.complete 0
+  cleared_done s idle is h = subst (AreDone t (raised s.commands) s.complete) idle (other_done s commands.Clear is refl h)
+
   command_done : (s : Machine) (m : Move) (c : Option Command) → s.remaining ≡ 0 → command_at t (raised s.commands) ≡ c → IsCommand c m → Done s →
       Done (moved s m)
   command_done s (moves.Start n arrivals) (Some (commands.Start count)) idle is same h =
       start_done s n idle (is ∙ ap (λ k. Some (commands.Start k)) (sym same)) h
   command_done s moves.Command (Some (commands.Rmult values)) idle is next h = other_done s (commands.Rmult values) is refl h
+  command_done s moves.Reset (Some commands.Reset) idle is next h = other_done s commands.Reset is refl h
+  command_done s moves.Clear (Some commands.Clear) idle is next h = cleared_done s idle is h
   command_done s m None idle is next h = absurd next
   command_done s m (Some (commands.Start count)) idle is next h = absurd next
   command_done s m (Some (commands.Rmult values)) idle is next h = absurd next
+  command_done s m (Some commands.Reset) idle is next h = absurd next
+  command_done s m (Some commands.Clear) idle is next h = absurd next
 
   -- one more is complete where nothing remains
   some_under_way : (n : ℕ) → 1 ≤ n → under_way n ≡ 1
@@ -179,6 +188,8 @@ module _ (t : Listing) (well : Well t) where
   scan_done : (s : Machine) (m : Move) → under_way s.remaining ≡ 1 → IsScan t s.active m → Done s → Done (moved s m)
   scan_done s (moves.Start count arrivals) some next h = absurd (no_start t s.active count arrivals next)
   scan_done s moves.Command some next h = absurd (no_command t s.active next)
+  scan_done s moves.Reset some next h = absurd (no_reset t s.active next)
+  scan_done s moves.Clear some next h = absurd (no_clear_scanned t s.active next)
   scan_done s (moves.Enter id change fate) some next h = entered_done s id change fate some h
   scan_done s (moves.Refuse id key units) some next h =
       with_active_has Done s.active (λ x. refused s x id key units) s h (λ x is. h)

@@ -30,6 +30,8 @@ use Rattle.gw_laws.proofs.NumberLaws.{has_number, IsNumbered, all_numbered}
 use Rattle.gw_laws.proofs.ChainLaws.{delay_ordered, all_chained, come_new, lined_numbers}
 use Rattle.gw_laws.proofs.DelayLaws.{delay_bound, all_bound}
 use Rattle.gw_laws.proofs.Waking.{all_lined_keeps}
+use Rattle.gw_laws.proofs.Anew.{none_stay, no_clear}
+use Rattle.gw_laws.specs.Anew.{Clears}
 
 -- ---- whoever goes on waiting keeps his place
 
@@ -175,6 +177,8 @@ module _ (priority : ℤ) where
         KeepsPlaces s (moved s m)
     moved_places t s (moves.Start count arrivals) decided h order = same_places s (moved s (moves.Start count arrivals)) refl
     moved_places t s moves.Command decided h order = same_places s (moved s moves.Command) refl
+    moved_places t s moves.Reset decided h order = same_places s (moved s moves.Reset) refl
+    moved_places t s moves.Clear decided h order = none_stay (numbers_of priority (delay_at s.delays q))
     moved_places t s (moves.Enter id change fate) decided h order =
         still_places s (moved s (moves.Enter id change fate))
         (entered_has (StillWait s) (StillWait s) t s id change fate decided.1 (all_wait s s h refl)
@@ -263,10 +267,13 @@ module _ (q : Key) (x : Transaction) (way : IsBound x) where
   lined_stay y w v delays current (inr in') =
       inr (in'.0, in'.1, subst (λ ys. Contains ys (placed x in'.0)) (sym current) (lined_keeps y w.current (placed x in'.0) in'.2))
 
-  moved_stay : (t : Listing) (s : Machine) (m : Move) → IsDecided t s m → Contains (delay_at s.delays q) x → WaitsOrIsIn (moved s m)
-  moved_stay t s (moves.Start count arrivals) decided there = inl there
-  moved_stay t s moves.Command decided there = inl there
-  moved_stay t s (moves.Enter id change fate) decided there =
+  moved_stay : (t : Listing) (s : Machine) (m : Move) → IsDecided t s m → (Clears m → ⊥) → Contains (delay_at s.delays q) x →
+      WaitsOrIsIn (moved s m)
+  moved_stay t s (moves.Start count arrivals) decided apart there = inl there
+  moved_stay t s moves.Command decided apart there = inl there
+  moved_stay t s moves.Reset decided apart there = inl there
+  moved_stay t s moves.Clear decided apart there = absurd (apart tt)
+  moved_stay t s (moves.Enter id change fate) decided apart there =
       entered_has WaitsOrIsIn WaitsOrIsIn t s id change fate decided.1 (inl there)
       (λ y is. inl (subst (λ ds. Contains (delay_at ds q) x) (sym (settled_is s y id change fate).delays) there))
       (λ v. record {
@@ -276,12 +283,12 @@ module _ (q : Key) (x : Transaction) (way : IsBound x) where
         copies = λ w to y values copying k. lined_stay (copied y w.next to) w (one_copied to y values w) refl refl k;
         unlinks = λ w key to y ys named is k. lined_stay (sent to y) w (one_unlinked key to y ys w) refl refl k;
       })
-  moved_stay t s (moves.Refuse id key units) decided there =
+  moved_stay t s (moves.Refuse id key units) decided apart there =
       with_active_has WaitsOrIsIn s.active (λ y. refused s y id key units) s (inl there) (λ y is. refused_stay s y id key units there)
-  moved_stay t s (moves.Watch read) decided there =
+  moved_stay t s (moves.Watch read) decided apart there =
       with_active_has WaitsOrIsIn s.active (λ y. watching s y read) s (inl there) (λ y is. inl there)
-  moved_stay t s moves.Pick decided there = picked_has WaitsOrIsIn s s.current (inl there) (λ y ys is. inl there)
-  moved_stay t s (moves.Clock time) decided there = inl there
+  moved_stay t s moves.Pick decided apart there = picked_has WaitsOrIsIn s s.current (inl there) (λ y ys is. inl there)
+  moved_stay t s (moves.Clock time) decided apart there = inl there
 
   woken_stay : (list : List Watched) (w : Machine) → WaitsOrIsIn w → WaitsOrIsIn (woken list w)
   woken_stay list w (inl there) = inl there
@@ -289,10 +296,11 @@ module _ (q : Key) (x : Transaction) (way : IsBound x) where
       inr (in'.0, in'.1, all_lined_keeps (transactions_of (filter (is_woken list) w.retry)) w.current (placed x in'.0) in'.2)
 
 pub who_leaves_is_let_in : WhoLeavesIsLetIn
-who_leaves_is_let_in t seed n s v there is key x waits =
+who_leaves_is_let_in t seed n s v there is none key x waits =
     let after = ((step_decides t seed s).runs v (sym (run_on t seed n s there) ∙ is)).0 in
     let way : IsBound x =
     All-contains IsBound (delay_at s.delays key) x
     (All-from_recursion IsBound (delay_at s.delays key) (delay_bound s key (all_bound t seed n s there))) waits in
     subst (WaitsOrIsIn key x way) (sym after.is)
-    (woken_stay key x way (written s after.move) (moved s after.move) (moved_stay key x way t s after.move after.is_decided waits))
+    (woken_stay key x way (written s after.move) (moved s after.move) (moved_stay key x way t s after.move after.is_decided
+    (no_clear t s after.move after.is_decided none) waits))

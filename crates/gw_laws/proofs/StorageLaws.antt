@@ -28,7 +28,10 @@ use Rattle.gw_frame.proofs.Moves.{settled_is, with_active_has, entered_has, pick
 use Rattle.gw_frame.proofs.Running.{over_run}
 use Rattle.gw_laws.specs.Storages.{IsWithin, IsStored, StoragesAreWithin}
 use Rattle.gw_laws.proofs.Waiting.{let_in_is}
-use Rattle.gw_laws.proofs.ClockLaws.{IsInTime, moved_goes_on}
+use Rattle.gw_laws.proofs.ClockLaws.{IsInTime, moved_goes_on, moved_in_time}
+use Rattle.gw_laws.specs.Anew.{Clears}
+use Rattle.gw_meaning.specs.Entities.{all_anew}
+use Rattle.gw_entities.specs.Records.{storage_anew}
 
 pub no_room : (n m : ℕ) → nat_le n m ≡ false → m < n
 no_room n m is = grind (arith, nat_tests)
@@ -200,13 +203,34 @@ later_kept t clock later (e ∷ es) on all =
     } in
     ((all.0.0, all.0.1, now), later_kept t clock later es on all.1)
 
+-- counted anew
+anew_kept : (t : Listing) (clock : ℕ) (es : List (Key × Store)) → AreKept t clock es → AreKept t clock (all_anew (storage_anew clock) es)
+anew_kept t clock [] all = tt
+anew_kept t clock (e ∷ es) all =
+    let h = all.0.2 in
+    let now : IsSound (capacity_at t all.0.0) clock (storage_anew clock e.1) = record {
+      within = record {
+        content = h.within.content;
+        least = omega arith;
+        most = omega arith;
+        greatest = h.within.content;
+        entries = omega arith;
+        at = omega arith;
+      };
+      counted = h.counted;
+    } in
+    ((all.0.0, all.0.1, now), anew_kept t clock es all.1)
+
 -- each move
 abbrev Kept : Listing → Machine → Type 0
 Kept t s = AreKept t s.clock s.entities.storages
 
-moved_kept : (t : Listing) (s : Machine) (m : Move) → IsDecided t s m → s.clock ≤ (moved s m).clock → Kept t s → Kept t (moved s m)
+moved_kept : (t : Listing) (s : Machine) (m : Move) → IsDecided t s m → ((Clears m → ⊥) → s.clock ≤ (moved s m).clock) → Kept t s →
+    Kept t (moved s m)
 moved_kept t s (moves.Start count arrivals) decided on all = all
 moved_kept t s moves.Command decided on all = all
+moved_kept t s moves.Reset decided on all = anew_kept t s.clock s.entities.storages all
+moved_kept t s moves.Clear decided on all = tt
 moved_kept t s (moves.Enter id change fate) decided on all =
     entered_has (Kept t) (Kept t) t s id change fate decided.1 all
     (λ x is. (let same = settled_is s x id change fate in rw (same.clock, same.entities) (touched_kept t s change x.number decided.1 all)))
@@ -222,13 +246,16 @@ moved_kept t s (moves.Refuse id key units) decided on all =
 moved_kept t s (moves.Watch read) decided on all =
     with_active_has (Kept t) s.active (λ x. watching s x read) s all (λ x is. all)
 moved_kept t s moves.Pick decided on all = picked_has (Kept t) s s.current all (λ x xs is. all)
-moved_kept t s (moves.Clock time) decided on all = later_kept t s.clock time s.entities.storages on all
+moved_kept t s (moves.Clock time) decided on all = later_kept t s.clock time s.entities.storages (on (λ c. c)) all
 
 -- over a run
 pub all_kept : (t : Listing) (seed n : ℕ) (s : Machine) → run t seed n ≡ Ok s → Kept t s
 all_kept t seed n s is =
     (over_run t seed (λ n v. IsInTime t v × Kept t v) ((omega arith, tt), tt)
-    (λ n v m streams there decided h. (let goes = moved_goes_on t v m decided h.0 in (goes.1, moved_kept t v m decided goes.0 h.1))) n s is).1
+    (λ n v m streams there decided h. (
+      moved_in_time t v m decided h.0,
+      moved_kept t v m decided (λ apart. (moved_goes_on t v m decided apart h.0).0) h.1,
+    )) n s is).1
 
 each_stored : (t : Listing) (clock : ℕ) (es : List (Key × Store)) → AreKept t clock es → AllByRecursion (IsStored t clock) es
 each_stored t clock [] all = tt

@@ -82,6 +82,8 @@ IsOfNobody m = ⊥
 abbrev pub IsCommand : Option Command → Move → Type 0
 IsCommand (Some (commands.Start count)) (moves.Start n arrivals) = n ≡ count
 IsCommand (Some (commands.Rmult values)) moves.Command = Unit {0}
+IsCommand (Some commands.Reset) moves.Reset = Unit {0}
+IsCommand (Some commands.Clear) moves.Clear = Unit {0}
 IsCommand command m = ⊥
 
 abbrev pub IsScan : Listing → Option Transaction → Move → Type 0
@@ -95,6 +97,14 @@ no_start t (Some x) count arrivals next = next.2
 pub no_command : (t : Listing) (o : Option Transaction) → IsScan t o moves.Command → ⊥
 no_command t None next = next
 no_command t (Some x) next = next.2
+
+pub no_reset : (t : Listing) (o : Option Transaction) → IsScan t o moves.Reset → ⊥
+no_reset t None next = next
+no_reset t (Some x) next = next.2
+
+pub no_clear_scanned : (t : Listing) (o : Option Transaction) → IsScan t o moves.Clear → ⊥
+no_clear_scanned t None next = next
+no_clear_scanned t (Some x) next = next.2
 
 -- by what remains of the count of a START
 abbrev pub IsNext : Listing → Machine → ℕ → Move → Type 0
@@ -148,6 +158,8 @@ module _ (t : Listing) (seed : ℕ) (s : Machine) where
         from = λ streams r is. (let same : (moves.Command, all_set streams values) ≡ r = cc in
             subst (λ (d : Move × List Stream). IsCommand (Some (commands.Rmult values)) d.0) same tt);
       }
+  command_next (Some commands.Reset) = comes_gives tt
+  command_next (Some commands.Clear) = comes_gives tt
 
   move_next : (remaining : ℕ) → Comes t seed (IsNext t s remaining) (move_prog s remaining)
   move_next zero = comes_asks (items.Cmd (raised s.commands)) (command_next (command_at t (raised s.commands)))

@@ -26,10 +26,12 @@ use Rattle.gw_meaning.specs.declared.item.Item.TheVariants as items
 use Rattle.gw_meaning.specs.Listing.{Listing}
 use Rattle.gw_meaning.specs.Machine.{Machine}
 use Rattle.gw_meaning.specs.Questions.{Answer, ask, Prog, Gives, Ends, Asks, result_of, ◌>>=◌}
-use Rattle.gw_meaning.specs.Evaluation.{Eval, gives, ends_with, asks, ◌~>◌, stops_if, number_of_draw, draw, in_range, amount, own_value, numbered, named, subject_prog, storage_prog, left_prog, counted, block_count, drawn_prog, random_prog, random_part, entity_value, storage_value, block_value, value_held, parameter_value, attribute_prog, arithmetic, reply_prog, evaluated, value_prog, value_there, value_or_zero, entity_prog, units_prog, spread, sample_within, modifier_of, time_by, time_prog, storage_watched, counts_watched, watched_prog, watched_by, traced, value_traced, entity_traced}
+use Rattle.gw_meaning.specs.Evaluation.{Eval, gives, ends_with, asks, ◌~>◌, stops_if, number_of_draw, draw, in_range, amount, own_value, numbered, named, subject_prog, defined_prog, left_prog, counted, block_count, drawn_prog, random_prog, random_part, entity_value, storage_value, table_value, block_value, value_held, parameter_value, attribute_prog, arithmetic, reply_prog, evaluated, value_prog, value_there, value_or_zero, entity_prog, units_prog, spread, sample_within, modifier_of, time_by, time_prog, defined_watched, counts_watched, watched_prog, watched_by, traced, value_traced, entity_traced}
 use Rattle.gw_meaning.specs.declared.watched.Watched.{Watched}
 use Rattle.gw_meaning.specs.Watching.{with_all_watched}
 use Rattle.gw_frame.proofs.DecidedValues.{Whatever}
+use Rattle.gw_meaning.specs.declared.watched.EntityKind.{EntityKind}
+use Rattle.gw_meaning.specs.declared.watched.EntityKind.TheVariants as kinds
 
 abbrev pub IsError : End → Type 0
 IsError (ends.Error stop) = Unit {0}
@@ -146,10 +148,10 @@ arithmetic_tries (Ok z) = tries_gives tt
 arithmetic_tries (Err arithmetic_faults.Range) = tries_ends
 arithmetic_tries (Err arithmetic_faults.ZeroDivisor) = tries_ends
 
-storage_watched_tries : (of : Subject) → TriesAny (storage_watched of)
-storage_watched_tries subjects.Own = tries_gives tt
-storage_watched_tries (subjects.Number n) = tries_gives tt
-storage_watched_tries (subjects.Name name) = tries_gives tt
+defined_watched_tries : (kind : EntityKind) (of : Subject) → TriesAny (defined_watched kind of)
+defined_watched_tries kind subjects.Own = tries_gives tt
+defined_watched_tries kind (subjects.Number n) = tries_gives tt
+defined_watched_tries kind (subjects.Name name) = tries_gives tt
 
 counts_watched_tries : (of : Subject) → TriesAny (counts_watched of)
 counts_watched_tries subjects.Own = tries_gives tt
@@ -191,7 +193,12 @@ module _ (s : Machine) where
   storage_value_tries class.Sm key = amount_tries _
   storage_value_tries of key = tries_ends
 
-  of_storage : (class : Class) (of : Subject) → TriesAny (storage_prog of (λ key. storage_value s class key))
+  table_value_tries : (of : Subject) → TriesAny (defined_prog of (λ key. table_value s key))
+  table_value_tries subjects.Own = tries_ends
+  table_value_tries (subjects.Number n) = tries_ends
+  table_value_tries (subjects.Name name) = amount_tries _
+
+  of_storage : (class : Class) (of : Subject) → TriesAny (defined_prog of (λ key. storage_value s class key))
   of_storage class subjects.Own = tries_ends
   of_storage class (subjects.Number n) = tries_ends
   of_storage class (subjects.Name name) = storage_value_tries class (keys.Defined name)
@@ -238,6 +245,7 @@ module _ (s : Machine) where
   attribute_tries q class.R of = left_tries of
   attribute_tries q class.Sc of = of_storage class.Sc of
   attribute_tries q class.Sm of = of_storage class.Sm of
+  attribute_tries q class.Tc of = table_value_tries of
   attribute_tries q class.N of = of_block class.N of
   attribute_tries q class.W of = of_block class.W of
   attribute_tries q class.Rn of = random_tries of
@@ -303,10 +311,11 @@ module _ (s : Machine) where
   watched_tries class.Ls of = tries_bind (subject_tries of) (λ key. tries_gives tt)
   watched_tries class.Ch of = tries_bind (subject_tries of) (λ key. tries_gives tt)
   watched_tries class.Cc of = tries_bind (subject_tries of) (λ key. tries_gives tt)
-  watched_tries class.S of = storage_watched_tries of
-  watched_tries class.R of = storage_watched_tries of
-  watched_tries class.Sc of = storage_watched_tries of
-  watched_tries class.Sm of = storage_watched_tries of
+  watched_tries class.S of = defined_watched_tries kinds.Storage of
+  watched_tries class.R of = defined_watched_tries kinds.Storage of
+  watched_tries class.Sc of = defined_watched_tries kinds.Storage of
+  watched_tries class.Sm of = defined_watched_tries kinds.Storage of
+  watched_tries class.Tc of = defined_watched_tries kinds.Table of
   watched_tries class.N of = counts_watched_tries of
   watched_tries class.W of = counts_watched_tries of
   watched_tries class of = tries_gives tt

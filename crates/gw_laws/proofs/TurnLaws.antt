@@ -35,6 +35,8 @@ decided_first : (t : Listing) (s : Machine) (m : Move) (x : Transaction) → IsD
     WasFirst x s (woken (written s m) (moved s m))
 decided_first t s (moves.Start count arrivals) x decided none = none_is x s (woken [] (moved s (moves.Start count arrivals))) none
 decided_first t s moves.Command x decided none = none_is x s (woken [] (moved s moves.Command)) none
+decided_first t s moves.Reset x decided none = none_is x s (woken [] (moved s moves.Reset)) none
+decided_first t s moves.Clear x decided none = none_is x s (woken [] (moved s moves.Clear)) refl
 decided_first t s (moves.Enter id change fate) x decided none =
     let nobody =
     entered_has (λ v. ⊥) (λ v. v.active ≡ None) t s id change fate decided.1 none (λ y there. absurd (let no : None ≡ Some y = sym none ∙ there in cc))
@@ -95,6 +97,8 @@ stands s v same less = absurd (omega (arith, same, less))
 decided_come : (t : Listing) (s : Machine) (m : Move) → IsDecided t s m → IsOrdered s.current → Come s (woken (written s m) (moved s m))
 decided_come t s (moves.Start count arrivals) decided order = stands s (woken [] (moved s (moves.Start count arrivals))) refl
 decided_come t s moves.Command decided order = stands s (woken [] (moved s moves.Command)) refl
+decided_come t s moves.Reset decided order = stands s (woken [] (moved s moves.Reset)) refl
+decided_come t s moves.Clear decided order = λ less. absurd (omega (arith, less))
 decided_come t s (moves.Enter id change fate) decided order =
     let P : Machine → Type 0 = λ v. v.clock ≡ s.clock in
     let still =

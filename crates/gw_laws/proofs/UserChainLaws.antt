@@ -31,7 +31,7 @@ use Rattle.gw_meaning.specs.Step.{meet_prog, decide, step}
 use Rattle.gw_frame.proofs.Decided.{is_decided}
 use Rattle.gw_frame.proofs.Known.{IsDecidedFate, IsDecided}
 use Rattle.gw_frame.proofs.Moves.{settled, with_active_has, picked_has, split_is}
-use Rattle.gw_laws.specs.UserChains.{chain_of, on_chain, IsLink, IsPlacedBy, TookFromTheFront, OneCame, UserChainsChangeByLinkAndUnlink, FewerByUnlinkAlone, WhoLeavesIsUnlinked, EachLinkIsFifo, UserChainsAreFirstInFirstOut}
+use Rattle.gw_laws.specs.UserChains.{chain_of, on_chain, IsLink, IsPlacedBy, TookFromTheFront, OneCame, CountedAnew, Emptied, UserChainsChangeByLinkAndUnlink, FewerByUnlinkAlone, WhoLeavesIsUnlinked, EachLinkIsFifo, UserChainsAreFirstInFirstOut}
 use Rattle.gw_frame.proofs.UserChains.{chain_set}
 use Rattle.gw_laws.proofs.Attempts.{IsAtOr, WaitsAtBlock, LinksAtVerb, LinksAtBlock, meet_waits}
 use Rattle.gw_laws.proofs.EndLaws.{went_on, goes_on}
@@ -39,6 +39,7 @@ use Rattle.gw_laws.proofs.GateLaws.{IsTriedAt, IsNoAttempt, tried_at}
 use Rattle.gw_laws.proofs.Linking.{chain_there, admitted_chain, unlinked_there, unlinked_here, unlinked_entries, unlinked_stands}
 use Rattle.gw_laws.proofs.Trying.{gives_so}
 use Rattle.gw_laws.proofs.Waking.{all_lined_keeps}
+use Rattle.gw_laws.proofs.Anew.{all_dropped, chain_members, chain_entries}
 
 -- ---- a user chain in a step
 
@@ -49,7 +50,10 @@ joined_is disciplines.Lifo x xs = refl
 module _ (s : Machine) (key : Key) where
   abbrev IsServed : Move → Machine → Type 0
   IsServed m v =
-      (chain_of v key ≡ chain_of s key) ⊎ (TookFromTheFront m key (chain_of s key) (chain_of v key) ⊎ OneCame s m key (chain_of s key) (chain_of v key))
+      (chain_of v key ≡ chain_of s key)
+      ⊎ (TookFromTheFront m key (chain_of s key) (chain_of v key)
+      ⊎ (OneCame s m key (chain_of s key) (chain_of v key)
+      ⊎ (CountedAnew m (chain_of s key) (chain_of v key) ⊎ Emptied m (chain_of v key))))
 
   -- an entry that leaves the transaction active
   stays_served : (x : Transaction) (id : ℕ) (change : Change) → IsServed (moves.Enter id change fates.Active) (entering s x id change fates.Active)
@@ -94,7 +98,7 @@ module _ (s : Machine) (key : Key) where
         entries = ap (λ (c : UserChain). c.entries) here;
       } in
       elim (cases_Bool (key_eq key chain)) [
-        | inl is ↦ inr (inr (subst (λ k. OneCame s m k (chain_of s k) (chain_of v k)) (sym (key_same key chain is)) came))
+        | inl is ↦ inr (inr (inl (subst (λ k. OneCame s m k (chain_of s k) (chain_of v k)) (sym (key_same key chain is)) came)))
         | inr other ↦ inl (chain_there s.linked key chain _ other)
       ]
 
@@ -114,6 +118,9 @@ module _ (s : Machine) (key : Key) where
   moved_served : (t : Listing) (m : Move) → IsDecided t s m → IsServed m (moved s m)
   moved_served t (moves.Start count arrivals) decided' = inl refl
   moved_served t moves.Command decided' = inl refl
+  moved_served t moves.Reset decided' =
+      inr (inr (inr (inl (record { resets = tt; members = chain_members s key; entries = chain_entries s key }))))
+  moved_served t moves.Clear decided' = inr (inr (inr (inr (record { clears = tt; empty = refl }))))
   moved_served t (moves.Enter id change fate) decided' =
       with_active_has (IsServed (moves.Enter id change fate)) s.active (λ x. entering s x id change fate) s (inl refl)
       (λ x is. entered_served x id change fate is decided'.2)
@@ -137,11 +144,13 @@ one_more disciplines.Fifo x xs ys is = ap length is ∙ length-append xs (x ∷ 
 one_more disciplines.Lifo x xs ys is = let same = ap length is in omega arith
 
 pub fewer_by_unlink_alone : FewerByUnlinkAlone
-fewer_by_unlink_alone t seed s v m streams goes is key fewer =
+fewer_by_unlink_alone t seed s v m streams goes is apart key fewer =
     elim (user_chains_change_by_link_and_unlink t seed s v m streams goes is key) [
       | inl same ↦ absurd (let alike = ap (λ (c : UserChain). length c.members) same in omega (arith, fewer, alike))
       | inr (inl took) ↦ took
-      | inr (inr came) ↦ absurd (
+      | inr (inr (inr (inl anew))) ↦ absurd (let alike = ap length anew.members in omega (arith, fewer, alike))
+      | inr (inr (inr (inr emptied))) ↦ absurd (apart emptied.clears)
+      | inr (inr (inl came)) ↦ absurd (
           let more = one_more came.discipline came.who (on_chain s key) (on_chain v key) came.members in
           omega (arith, fewer, more))
     ]
@@ -171,7 +180,7 @@ who_is_active t seed s m streams id change fate goes is =
     ]
 
 pub who_leaves_is_unlinked : WhoLeavesIsUnlinked
-who_leaves_is_unlinked t seed s v m streams goes is key x there =
+who_leaves_is_unlinked t seed s v m streams goes is apart key x there =
     let same = same_behind t seed s v m streams goes is in
     elim (user_chains_change_by_link_and_unlink t seed s v m streams goes is key) [
       | inl stays ↦ inl (subst (λ (c : UserChain). Contains c.members x) (sym stays) there)
@@ -189,7 +198,9 @@ who_leaves_is_unlinked t seed s v m streams goes is key x there =
                 inr (count, to, took.unlinks, subst (λ (u : Machine). Contains u.current (sent to x)) same now)
             | inr behind ↦ inl (subst (λ xs. Contains xs x) (sym took.members) behind)
           ]
-      | inr (inr came) ↦ inl (stays_beside came.discipline came.who (on_chain s key) (on_chain v key) x came.members there)
+      | inr (inr (inr (inl anew))) ↦ inl (subst (λ xs. Contains xs x) (sym anew.members) there)
+      | inr (inr (inr (inr emptied))) ↦ absurd (apart emptied.clears)
+      | inr (inr (inl came)) ↦ inl (stays_beside came.discipline came.who (on_chain s key) (on_chain v key) x came.members there)
     ]
 
 -- ---- first in, first out
@@ -237,7 +248,10 @@ user_chains_are_first_in_first_out t seed s v each is key =
     elim (user_chains_change_by_link_and_unlink t seed s v went.0.0 went.0.1 went.1 is key) [
       | inl same ↦ (0, [], ap (λ (c : UserChain). c.members) same ∙ sym (append-nil (on_chain s key)), inl refl)
       | inr (inl took) ↦ (took.count, [], took.members ∙ sym (append-nil (drop took.count (on_chain s key))), inl refl)
-      | inr (inr came) ↦
+      | inr (inr (inr (inl anew))) ↦ (0, [], anew.members ∙ sym (append-nil (on_chain s key)), inl refl)
+      | inr (inr (inr (inr emptied))) ↦
+          (length (on_chain s key), [], ap (λ (c : UserChain). c.members) emptied.empty ∙ all_dropped (on_chain s key), inl refl)
+      | inr (inr (inl came)) ↦
           let link = linked_by t seed s went.0.0 went.0.1 key came.discipline went.1 came.links in
           let fifo = is_fifo t each came.discipline link.0 link.1 link.2 link.3 link.4 in
           let now : on_chain v key ≡ on_chain s key ++ came.who ∷ [] =

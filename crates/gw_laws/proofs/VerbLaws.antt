@@ -4,7 +4,7 @@ use Rattle.gw_names.specs.declared.verb.BlockVerb.{BlockVerb}
 use Rattle.gw_names.specs.declared.verb.BlockVerb.TheVariants as blocks
 use Rattle.gw_names.specs.declared.key.Key.TheVariants as keys
 use Rattle.gw_expr.specs.declared.expr.Discipline.TheVariants as disciplines
-use Rattle.gw_expr.specs.Term.{Term, Value, Named, Defined, Order}
+use Rattle.gw_expr.specs.Term.{Term, Value, Named, Defined, Table, Order}
 use Rattle.gw_expr.specs.Evaluation.{value_of, value_by, value_of_atom}
 use Rattle.gw_expr.specs.declared.atom.Atom.TheVariants as atoms
 use Rattle.gw_entities.specs.Records.{never_owned, seized, queued, no_line, never_used, entered}
@@ -37,13 +37,29 @@ line = Some (Named [])
 abbrev free : Option Term
 free = Some (Named (0 ∷ []))
 
--- the name of a storage, and a version in which it has two units
+-- the name of a storage and of a table, and a version in which the storage has two units and the table takes a 1
 abbrev pool : Option Term
 pool = Some (Defined [])
 
+abbrev table : Option Term
+table = Some (Table [])
+
 abbrev version : Listing
 version = record {
-  lines = record { number = 1; statement = record { label = Some []; body = bodies.Definition (definitions.Storage 2); operands = [] } } ∷ [];
+  lines =
+      record { number = 1; statement = record { label = Some []; body = bodies.Definition (definitions.Storage 2); operands = [] } }
+      ∷ record {
+        number = 2;
+        statement = record {
+          label = Some [];
+          body = bodies.Definition (definitions.Table (record {
+            argument = Value (atoms.Constant (pos 1));
+            classes = record { first = pos 0; width = 1; count = 2 };
+          }));
+          operands = [];
+        };
+      }
+      ∷ [];
   horizon = 1;
   replications = [];
   limit = 1;
@@ -65,6 +81,7 @@ busy = record zero_state {
     storages = (keys.Defined [], entered 1 0 never_used) ∷ [];
     savevalues = [];
     switches = [];
+    tables = [];
     comings = [];
   };
   parameters = (1, (keys.Named [], pos 1) ∷ []) ∷ [];
@@ -112,9 +129,9 @@ each_verb_is_evaluated blocks.Savevalue beside given forms is = entered_with (li
 each_verb_is_evaluated blocks.Split beside given forms is = entered_with (one ∷ []) refl
 each_verb_is_evaluated blocks.Link beside given forms is = entered_with (line ∷ first_in ∷ []) refl
 each_verb_is_evaluated blocks.Unlink beside given forms is = entered_with (line ∷ []) refl
+each_verb_is_evaluated blocks.Tabulate beside given forms is = entered_with (table ∷ []) refl
 each_verb_is_evaluated blocks.Mark beside given forms is = entered_with [] refl
 each_verb_is_evaluated blocks.Priority beside given forms is = entered_with (one ∷ []) refl
 each_verb_is_evaluated blocks.Buffer beside given forms is = entered_with [] refl
 each_verb_is_evaluated blocks.Assign beside given forms is = entered_with (line ∷ one ∷ []) refl
 each_verb_is_evaluated blocks.Loop beside given forms is = entered_with (line ∷ []) refl
-each_verb_is_evaluated verb beside given forms is = absurd cc

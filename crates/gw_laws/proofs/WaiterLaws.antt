@@ -23,6 +23,8 @@ use Rattle.gw_laws.proofs.Waiting.{let_in_is}
 use Rattle.gw_laws.proofs.ChainLaws.{all_chained, moved_ordered, never_below_itself}
 use Rattle.gw_laws.proofs.EndLaws.{went_on, goes_on}
 use Rattle.gw_laws.proofs.Tried.{changed_keeps}
+use Rattle.gw_laws.proofs.Anew.{clears_or, no_clear, filter_none}
+use Rattle.gw_laws.specs.Anew.{Clears}
 
 -- ---- who stands on a list, and in front of whom
 
@@ -192,21 +194,23 @@ entering_retry s x id change fate =
     (settled_is s x id change fate).retry
 
 -- behind those who were there
-pub retry_behind : (s : Machine) (m : Move) → (moved s m).retry ≡ s.retry ++ who_comes m s.active
-retry_behind s (moves.Start count arrivals) = sym (append-nil s.retry)
-retry_behind s moves.Command = sym (append-nil s.retry)
-retry_behind s (moves.Enter id change fate) =
+pub retry_behind : (s : Machine) (m : Move) → (Clears m → ⊥) → (moved s m).retry ≡ s.retry ++ who_comes m s.active
+retry_behind s (moves.Start count arrivals) apart = sym (append-nil s.retry)
+retry_behind s moves.Command apart = sym (append-nil s.retry)
+retry_behind s moves.Reset apart = sym (append-nil s.retry)
+retry_behind s moves.Clear apart = absurd (apart tt)
+retry_behind s (moves.Enter id change fate) apart =
     with_active_has (λ v. v.retry ≡ s.retry) s.active (λ x. entering s x id change fate) s refl (λ x is. entering_retry s x id change fate)
     ∙ sym (append-nil s.retry)
-retry_behind s (moves.Refuse id key units) =
+retry_behind s (moves.Refuse id key units) apart =
     with_active_has (λ v. v.retry ≡ s.retry) s.active (λ x. refused s x id key units) s refl (λ x is. refl) ∙ sym (append-nil s.retry)
-retry_behind s (moves.Watch read) = go s.active where
+retry_behind s (moves.Watch read) apart = go s.active where
   go : (o : Option Transaction) → (with_active o (λ x. watching s x read) s).retry ≡ s.retry ++ who_comes (moves.Watch read) o
   go None = sym (append-nil s.retry)
   go (Some x) = refl
-retry_behind s moves.Pick =
+retry_behind s moves.Pick apart =
     picked_has (λ v. v.retry ≡ s.retry) s s.current refl (λ x xs is. refl) ∙ sym (append-nil s.retry)
-retry_behind s (moves.Clock time) = sym (append-nil s.retry)
+retry_behind s (moves.Clock time) apart = sym (append-nil s.retry)
 
 pub who_comes_is : (m : Move) (o : Option Transaction) → IsAtMostTheActive o (who_comes m o)
 who_comes_is (moves.Watch read) (Some x) = inr (record { transaction = x; read = read }, refl, refl)
@@ -224,71 +228,86 @@ at_most_still p o come (inr (w, one', active)) = elim (cases_Bool (p w)) [
 abbrev pub waits_on : Machine → Move → Waiter → Bool
 waits_on s m w = not (is_woken (written s m) w)
 
-pub retry_decided : (s : Machine) (m : Move) (streams : List Stream) →
+pub retry_decided : (s : Machine) (m : Move) (streams : List Stream) → (Clears m → ⊥) →
     (decided s m streams).retry ≡ filter (waits_on s m) s.retry ++ filter (waits_on s m) (who_comes m s.active)
-retry_decided s m streams = ap (filter (waits_on s m)) (retry_behind s m) ∙ filter-append (waits_on s m) s.retry (who_comes m s.active)
+retry_decided s m streams apart = ap (filter (waits_on s m)) (retry_behind s m apart) ∙ filter-append (waits_on s m) s.retry (who_comes m s.active)
 
 pub waiters_keep_their_order : WaitersKeepTheirOrder
 waiters_keep_their_order t seed s v is =
     let went = went_on t seed s v is in
-    let m = went.0.0 in (
-      waits_on s m,
-      filter (waits_on s m) (who_comes m s.active),
-      ap (λ (u : Machine). u.retry) went.2 ∙ retry_decided s m went.0.1,
-      at_most_still (waits_on s m) s.active (who_comes m s.active) (who_comes_is m s.active),
-    )
+    let m = went.0.0 in
+    elim (clears_or m) [
+      | inl clears ↦ (
+        (λ w. false),
+        [],
+        none_waits s v m went.0.1 went.2 clears ∙ sym (append-nil (filter (λ w. false) s.retry) ∙ filter_none s.retry),
+        inl refl,
+      )
+      | inr apart ↦ (
+        waits_on s m,
+        filter (waits_on s m) (who_comes m s.active),
+        ap (λ (u : Machine). u.retry) went.2 ∙ retry_decided s m went.0.1 apart,
+        at_most_still (waits_on s m) s.active (who_comes m s.active) (who_comes_is m s.active),
+      )
+    ]
+  where
+    -- behind a CLEAR nobody waits
+    none_waits : (s v : Machine) (m : Move) (streams : List Stream) → v ≡ decided s m streams → Clears m → v.retry ≡ []
+    none_waits s v moves.Clear streams same c = ap (λ (u : Machine). u.retry) same
+    none_waits s v m streams same c = absurd c
 
 -- ---- whom a step wakes
 
-woken_waits_on : (s : Machine) (m : Move) (streams : List Stream) (w : Waiter) → Waits s w → is_woken (written s m) w ≡ false → Waits (decided s m streams) w
-woken_waits_on s m streams w there unread =
+woken_waits_on : (s : Machine) (m : Move) (streams : List Stream) (w : Waiter) → (Clears m → ⊥) → Waits s w → is_woken (written s m) w ≡ false → Waits (decided s m streams) w
+woken_waits_on s m streams w apart there unread =
     let still = stands_filter (waits_on s m) s.retry w (ap not unread) (stands_of s.retry w there) in
     let stands = stands_append (filter (waits_on s m) s.retry) (filter (waits_on s m) (who_comes m s.active)) w still in
-    subst (λ ws. Contains ws w) (sym (retry_decided s m streams)) (contains_of _ w stands)
+    subst (λ ws. Contains ws w) (sym (retry_decided s m streams apart)) (contains_of _ w stands)
 
 -- those who wake were there before
 abbrev who_wakes : Machine → Move → List Waiter
 who_wakes s m = filter (is_woken (written s m)) (moved s m).retry
 
-wake_behind : (s : Machine) (m : Move) →
+wake_behind : (s : Machine) (m : Move) → (Clears m → ⊥) →
     who_wakes s m ≡ filter (is_woken (written s m)) s.retry ++ filter (is_woken (written s m)) (who_comes m s.active)
-wake_behind s m = ap (filter (is_woken (written s m))) (retry_behind s m) ∙ filter-append (is_woken (written s m)) s.retry (who_comes m s.active)
+wake_behind s m apart = ap (filter (is_woken (written s m))) (retry_behind s m apart) ∙ filter-append (is_woken (written s m)) s.retry (who_comes m s.active)
 
-wakes : (s : Machine) (m : Move) (streams : List Stream) (w : Waiter) → Waits s w → is_woken (written s m) w ≡ true →
+wakes : (s : Machine) (m : Move) (streams : List Stream) (w : Waiter) → (Clears m → ⊥) → Waits s w → is_woken (written s m) w ≡ true →
     Contains (decided s m streams).current w.transaction
-wakes s m streams w there is =
+wakes s m streams w apart there is =
     let some = stands_filter (is_woken (written s m)) s.retry w is (stands_of s.retry w there) in
     let all = stands_append (filter (is_woken (written s m)) s.retry) (filter (is_woken (written s m)) (who_comes m s.active)) w some in
-    let stands : Stands (who_wakes s m) w = subst (λ ws. Stands ws w) (sym (wake_behind s m)) all in
+    let stands : Stands (who_wakes s m) w = subst (λ ws. Stands ws w) (sym (wake_behind s m apart)) all in
     contains_of _ w.transaction (all_lined_comes (transactions_of (who_wakes s m)) (moved s m).current w.transaction (stands_transactions (who_wakes s m) w stands))
 
 pub woken_by_what_is_written : WokenByWhatIsWritten
-woken_by_what_is_written t seed s v w m streams goes is there =
+woken_by_what_is_written t seed s v w m streams goes is apart there =
     let same : decided s m streams ≡ v = let both : Ok (decided s m streams) ≡ Ok v = sym (goes_on t seed s (m, streams) goes) ∙ is in cc in (
-      λ read. subst (λ (u : Machine). Contains u.current w.transaction) same (wakes s m streams w there read),
-      λ unread. subst (λ u. Waits u w) same (woken_waits_on s m streams w there unread),
+      λ read. subst (λ (u : Machine). Contains u.current w.transaction) same (wakes s m streams w apart there read),
+      λ unread. subst (λ u. Waits u w) same (woken_waits_on s m streams w apart there unread),
     )
 
 -- whoever waits no longer was woken
-pub was_woken : (s : Machine) (m : Move) (streams : List Stream) (w : Waiter) → Waits s w → (Waits (decided s m streams) w → ⊥) → is_woken (written s m) w ≡ true
-was_woken s m streams w there gone = elim (cases_Bool (is_woken (written s m) w)) [
+pub was_woken : (s : Machine) (m : Move) (streams : List Stream) (w : Waiter) → (Clears m → ⊥) → Waits s w → (Waits (decided s m streams) w → ⊥) → is_woken (written s m) w ≡ true
+was_woken s m streams w apart there gone = elim (cases_Bool (is_woken (written s m) w)) [
   | inl is ↦ is
-  | inr unread ↦ absurd (gone (woken_waits_on s m streams w there unread))
+  | inr unread ↦ absurd (gone (woken_waits_on s m streams w apart there unread))
 ]
 
 pub woken_in_order : WokenInOrder
-woken_in_order t seed n s v there is w u front equal gone other =
+woken_in_order t seed n s v there is none w u front equal gone other =
     let after = ((step_decides t seed s).runs v (sym (run_on t seed n s there) ∙ is)).0 in
     let m = after.move in
+    let apart = no_clear t s m after.is_decided none in
     let P : Machine → Type 0 = λ z. (Waits z w → ⊥) → (Waits z u → ⊥) → StandsInFront z.current w.transaction u.transaction in
     let before = before_of s.retry front.0 front.1 w u front.2 front.3 front.4 in
     let ordered = (moved_ordered t s m after.is_decided (all_chained t seed n s there)).current in
     subst P (sym after.is) (λ one' two.
-    (let first = was_woken s m after.streams w (contains_of s.retry w (stands_at s.retry front.0 w front.3)) one' in
-    let second = was_woken s m after.streams u (contains_of s.retry u (stands_at s.retry front.1 u front.4)) two in
+    (let first = was_woken s m after.streams w apart (contains_of s.retry w (stands_at s.retry front.0 w front.3)) one' in
+    let second = was_woken s m after.streams u apart (contains_of s.retry u (stands_at s.retry front.1 u front.4)) two in
     let some = before_filter (is_woken (written s m)) s.retry w u first second before in
     let all = before_append (filter (is_woken (written s m)) s.retry) (filter (is_woken (written s m)) (who_comes m s.active)) w u some in
-    let among = subst (λ ws. Before ws w u) (sym (wake_behind s m)) all in
+    let among = subst (λ ws. Before ws w u) (sym (wake_behind s m apart)) all in
     front_of _ w.transaction u.transaction
     (in_order_lined (transactions_of (who_wakes s m)) (moved s m).current w.transaction u.transaction ordered
     (before_transactions (who_wakes s m) w u among) equal))) gone other

@@ -1,8 +1,8 @@
 -- Nobody waits at a TEST that holds: what its attempt read and nobody wrote since replies as it did.
-use Rattle.std.proofs.Common.{◌≡◌, ℤ, pos, ℕ, ◌-◌, ◌^◌, ◌<◌, ◌≤◌, length, Bool, true, false, cond, not, nat_eq, ◌||◌, List, [], ◌∷◌, ◌++◌, Option, Some, None, unwrap_or, Result, Ok, Err, refl, sym, ap, ap₂, subst, ◌∙◌, inl, inr, arith}
+use Rattle.std.proofs.Common.{◌≡◌, ◌⊎◌, ℤ, pos, ℕ, zero, suc, ◌-◌, ◌^◌, ◌<◌, ◌≤◌, length, Bool, true, false, cond, not, nat_eq, ◌||◌, List, [], ◌∷◌, ◌++◌, Option, Some, None, unwrap_or, Result, Ok, Err, refl, sym, ap, ap₂, subst, ◌∙◌, inl, inr, arith}
 use Rattle.std.specs.Prelude.{Contains}
 use Rattle.std.specs.List.{AllByRecursion}
-use Rattle.std.proofs.lemmas.Bool.{cases_lt, or_parts, or_left, eq-eqb}
+use Rattle.std.proofs.lemmas.Bool.{cases_lt, or_parts, or_left, eq-eqb, and_parts, false≢true}
 use Rattle.std.proofs.lemmas.List.Folds.{list_any-append}
 use Rattle.gw_nums.specs.Range.{is_value, is_below}
 use Rattle.gw_names.specs.declared.class.Class.{Class}
@@ -44,17 +44,17 @@ use Rattle.gw_meaning.specs.declared.watched.Watched.{Watched}
 use Rattle.gw_meaning.specs.declared.watched.Watched.TheVariants as watched
 use Rattle.gw_meaning.specs.Statements.{A, B, C, operand}
 use Rattle.gw_meaning.specs.Listing.{Listing, block_at, label_at, number_at, capacity_at}
-use Rattle.gw_meaning.specs.Entities.{facility_at, line_at, store_at, savevalue_at, switch_at}
+use Rattle.gw_meaning.specs.Entities.{facility_at, line_at, store_at, savevalue_at, switch_at, table_at}
 use Rattle.gw_meaning.specs.Watching.{Waiter, same_watched, is_watched, with_watched, with_all_watched, transactions_of}
-use Rattle.gw_meaning.specs.Machine.{Machine, UserChain, count_at, delay_at, user_chain_at}
+use Rattle.gw_meaning.specs.Machine.{Machine, UserChain, zero_state, count_at, delay_at, user_chain_at}
 use Rattle.gw_meaning.specs.Questions.{Answer, ask, result_of}
-use Rattle.gw_meaning.specs.Evaluation.{Eval, gives, ends_with, asks, ◌~>◌, stops_if, in_range, amount, numbered, named, subject_prog, storage_prog, units_left, left_prog, counted, block_count, owned, one_if, value_held, parameter_value, value_there, entity_value, attribute_prog, reply_prog, evaluated, entity_watched, storage_watched, counts_of, counts_watched, watched_prog, watched_by, traced, value_traced}
+use Rattle.gw_meaning.specs.Evaluation.{Eval, gives, ends_with, asks, ◌~>◌, stops_if, in_range, amount, numbered, named, subject_prog, defined_prog, units_left, left_prog, counted, block_count, owned, one_if, value_held, parameter_value, value_there, entity_value, table_value, attribute_prog, reply_prog, evaluated, entity_watched, defined_watched, counts_of, counts_watched, watched_prog, watched_by, traced, value_traced}
 use Rattle.gw_meaning.specs.Changes.{placed, all_copied, written_in, Making, made, maybe_made, all_made, making_of, deed_shares, let_in, one_let_in, some_let_in, changed, entering, refused, watching, with_active, moved, crossing, crossings, written_by, written_where, written, is_woken, decided}
-use Rattle.gw_meaning.specs.Step.{for_one, holds, test_prog, block_prog, meet_prog, run}
+use Rattle.gw_meaning.specs.Step.{for_one, holds, test_prog, block_prog, meet_prog, decide, run}
 use Rattle.gw_meaning.proofs.Traces as alone
 use Rattle.gw_meaning.proofs.Programs.{bind_gives, bind_ends}
 use Rattle.gw_frame.proofs.Moves.{settled, settled_is, marked_same, still_active, all_copied_keep, unlink_is, with_active_has, picked_has}
-use Rattle.gw_laws.specs.Waiters.{is_lasting, IsLasting, ComesTo, ReadsWhatLasts, NobodyWaitsAtATestThatHolds, value_alone, TellingChangesNothing}
+use Rattle.gw_laws.specs.Waiters.{is_lasting, outlasts_reset, lasts_through, IsLasting, ComesTo, ReadsWhatLasts, WaitsSince, NobodyWaitsAtATestThatHolds, value_alone, TellingChangesNothing}
 use Rattle.gw_laws.proofs.Counts.{tally, tally_elsewhere, tally_made, tally_stood}
 use Rattle.gw_laws.proofs.Room.{all_low}
 use Rattle.gw_frame.proofs.Decided.{is_decided}
@@ -66,9 +66,24 @@ use Rattle.gw_laws.proofs.Crowd.{one, many_has, active_crowd}
 use Rattle.gw_laws.proofs.NumberLaws.{has_number, IsNumbered, all_numbered}
 use Rattle.gw_laws.proofs.OwnParameterLaws.{moved_elsewhere}
 use Rattle.gw_laws.proofs.WaiterLaws.{Stands, stands_of, contains_of, stands_transactions, all_stands, who_comes}
-use Rattle.gw_laws.proofs.GateLaws.{kept_of, SameEntity, moved_entity, with_has, unread_unwritten, IsRefusedAt, refused_at, IfWatches, passes_or, one_of, over_decided, all_wait_on}
+use Rattle.gw_laws.proofs.GateLaws.{kept_of, SameEntity, KeptEntity, moved_entity, moved_kept, with_has, unread_unwritten, IsRefusedAt, refused_at, IfWatches, passes_or, one_of, all_wait_on}
+use Rattle.gw_laws.proofs.Anew.{count_reset, no_reset_decided}
+use Rattle.gw_laws.specs.Anew.{Resets, Clears, NoneBetween}
+use Rattle.gw_meaning.specs.declared.statement.Command.TheVariants as commands
+use Rattle.gw_frame.proofs.Running.{last_step}
+use Rattle.gw_laws.proofs.EndLaws.{went_on, ends_for_good}
 
-module _ (t : Listing) (seed : ℕ) where
+-- what lasts through a RESET, lasts
+does_last : (resets : Bool) (class : Class) → lasts_through resets class ≡ true → is_lasting class ≡ true
+does_last true class is = (and_parts (is_lasting class) (outlasts_reset class) is).0
+does_last false class is = is
+
+-- what a RESET counts anew lasts where none was done
+not_through : (resets : Bool) (class : Class) → outlasts_reset class ≡ false → lasts_through resets class ≡ true → resets ≡ false
+not_through true class counted is = absurd (false≢true (sym counted ∙ (and_parts (is_lasting class) (outlasts_reset class) is).1))
+not_through false class counted is = refl
+
+module _ (resets : Bool) (t : Listing) (seed : ℕ) where
   -- ---- what an evaluation of two parts comes to
 
   pub bind_parts : {A B : Type 0} (p : Eval A) (k : A → Eval B) (before : List Stream) (r : B × List Stream) → result_of t seed ((p ~> k) before) ≡ Ok r →
@@ -139,10 +154,10 @@ module _ (t : Listing) (seed : ℕ) where
   steady_watched_entity : (kind : EntityKind) (of : Subject) → IsSteady (entity_watched kind of)
   steady_watched_entity kind of = steady_bind (subject_prog of) _ (steady_subject of) (λ key. steady_gives _)
 
-  steady_storage : (of : Subject) → IsSteady (storage_watched of)
-  steady_storage subjects.Own = steady_gives []
-  steady_storage (subjects.Number n) = steady_gives []
-  steady_storage (subjects.Name name) = steady_gives _
+  steady_defined : (kind : EntityKind) (of : Subject) → IsSteady (defined_watched kind of)
+  steady_defined kind subjects.Own = steady_gives []
+  steady_defined kind (subjects.Number n) = steady_gives []
+  steady_defined kind (subjects.Name name) = steady_gives _
 
   steady_counts : (of : Subject) → IsSteady (counts_watched of)
   steady_counts subjects.Own = steady_gives []
@@ -162,10 +177,11 @@ module _ (t : Listing) (seed : ℕ) where
   steady_watched class.Ls of = steady_watched_entity kinds.Switch of
   steady_watched class.Ch of = steady_watched_entity kinds.UserChain of
   steady_watched class.Cc of = steady_watched_entity kinds.UserChain of
-  steady_watched class.S of = steady_storage of
-  steady_watched class.R of = steady_storage of
-  steady_watched class.Sc of = steady_storage of
-  steady_watched class.Sm of = steady_storage of
+  steady_watched class.S of = steady_defined kinds.Storage of
+  steady_watched class.R of = steady_defined kinds.Storage of
+  steady_watched class.Sc of = steady_defined kinds.Storage of
+  steady_watched class.Sm of = steady_defined kinds.Storage of
+  steady_watched class.Tc of = steady_defined kinds.Table of
   steady_watched class.N of = steady_counts of
   steady_watched class.W of = steady_counts of
   steady_watched class of = steady_gives []
@@ -198,10 +214,15 @@ module _ (t : Listing) (seed : ℕ) where
     steady_entity : (class : Class) (of : Subject) → IsSteady (subject_prog of ~> (λ key. entity_value s class key))
     steady_entity class of = steady_bind (subject_prog of) (λ key. entity_value s class key) (steady_subject of) (steady_of_entity class)
 
-    steady_stored : (f : Store → ℕ) (of : Subject) → IsSteady (storage_prog of (λ key. amount (f (store_at s.entities key))))
+    steady_stored : (f : Store → ℕ) (of : Subject) → IsSteady (defined_prog of (λ key. amount (f (store_at s.entities key))))
     steady_stored f subjects.Own = steady_ends (ends.Error Range)
     steady_stored f (subjects.Number n) = steady_ends (ends.Error Range)
     steady_stored f (subjects.Name name) = steady_range (pos (f (store_at s.entities (keys.Defined name))))
+
+    steady_table : (of : Subject) → IsSteady (defined_prog of (λ key. table_value s key))
+    steady_table subjects.Own = steady_ends (ends.Error Range)
+    steady_table (subjects.Number n) = steady_ends (ends.Error Range)
+    steady_table (subjects.Name name) = steady_range (pos (length (table_at s.entities (keys.Defined name))))
 
     steady_left : (of : Subject) → IsSteady (left_prog s of)
     steady_left subjects.Own = steady_ends (ends.Error Range)
@@ -237,6 +258,8 @@ module _ (t : Listing) (seed : ℕ) where
     steady_attribute class.X of is = steady_entity class.X of
     steady_attribute class.Ls of is = steady_entity class.Ls of
     steady_attribute class.Ch of is = steady_entity class.Ch of
+    steady_attribute class.Cc of is = steady_entity class.Cc of
+    steady_attribute class.Tc of is = steady_table of
     steady_attribute class.P of is =
         steady_bind (subject_prog of) (λ key. parameter_value s q key) (steady_subject of)
         (λ key. steady_stops (not q.is_transaction) NoParameter _ (steady_held (parameter_at s.parameters q.number key)))
@@ -244,10 +267,13 @@ module _ (t : Listing) (seed : ℕ) where
     steady_attribute class.Xn1 of is = steady_stops (not q.is_transaction) NoParameter (amount q.number) (steady_range (pos q.number))
     steady_attribute class of is = absurd cc
 
-    pub steady_reply : (question : Question) → IsLasting question → IsSteady (reply_prog s q question)
+    steady_through : (class : Class) (of : Subject) → lasts_through resets class ≡ true → IsSteady (attribute_prog s q class of)
+    steady_through class of is = steady_attribute class of (does_last resets class is)
+
+    pub steady_reply : (question : Question) → IsLasting resets question → IsSteady (reply_prog s q question)
     steady_reply (NumberOf name) is =
         steady_asks (items.Named asking.Number name) (λ number. gives number) (steady_gives (ask t seed (items.Named asking.Number name)))
-    steady_reply (AttributeOf class of) is = steady_attribute class of is
+    steady_reply (AttributeOf class of) is = steady_through class of is
     steady_reply (PartOf of) is = absurd is
     steady_reply (VariableOf name) is =
         steady_asks (items.Named asking.Variable name) (λ e. gives e) (steady_gives (ask t seed (items.Named asking.Variable name)))
@@ -284,7 +310,7 @@ module _ (t : Listing) (seed : ℕ) where
   abbrev Came : {A : Type 0} → Machine → Asker → List Watched → Evaluation A → A → Type 0
   Came s q read (Yields b) a = b ≡ a
   Came s q read (Stops stop) a = ⊥
-  Came s q read (Wants question k) a = IsLasting question →
+  Came s q read (Wants question k) a = IsLasting resets question →
       (reply : Reply question) × Comes (reply_prog s q question) reply
       × ((more : List Watched) × Comes (watched_by question) more × AllIn read more)
       × Came s q read (k reply) a
@@ -324,7 +350,7 @@ module _ (t : Listing) (seed : ℕ) where
 
   -- where it is known to read what lasts, it comes to nothing else
   came_is : {A : Type 0} (s : Machine) (q : Asker) (read : List Watched) (e : Evaluation A) (a b : A) → Came s q read e a →
-      ReadsWhatLasts t seed s q e → Comes (evaluated s q e) b → a ≡ b
+      ReadsWhatLasts resets t seed s q e → Comes (evaluated s q e) b → a ≡ b
   came_is s q read (Yields c) a b came lasts is = sym came ∙ given_is c b (is [])
   came_is s q read (Stops stop) a b came lasts is = absurd came
   came_is s q read (Wants question k) a b came lasts is =
@@ -333,10 +359,14 @@ module _ (t : Listing) (seed : ℕ) where
 
   -- ---- what nobody wrote replies as it did
 
-  -- what is on a list of what was read stays, and what a transaction has of its own
+  -- what is on a list of what was read stays, but for what a RESET counts anew; that stays where none was done; and so does
+  -- what a transaction has of its own
   record Stays (s u : Machine) (read : List Watched) (x : Transaction) : Type 0 where
-    entity : (kind : EntityKind) (key : Key) → is_watched read (watched.Entity kind key) ≡ true → SameEntity kind key (kept_of s) (kept_of u)
-    counts : (id : ℕ) → is_watched read (watched.Counts id) ≡ true → tally u.counts id ≡ tally s.counts id
+    entity : (kind : EntityKind) (key : Key) → is_watched read (watched.Entity kind key) ≡ true → KeptEntity kind key (kept_of s) (kept_of u)
+    counted : resets ≡ false → (kind : EntityKind) (key : Key) → is_watched read (watched.Entity kind key) ≡ true →
+        SameEntity kind key (kept_of s) (kept_of u)
+    counts : (id : ℕ) → is_watched read (watched.Counts id) ≡ true → (count_at u.counts id).content ≡ (count_at s.counts id).content
+    entries : resets ≡ false → (id : ℕ) → is_watched read (watched.Counts id) ≡ true → tally u.counts id ≡ tally s.counts id
     own : (key : Key) → parameter_at u.parameters x.number key ≡ parameter_at s.parameters x.number key
 
   -- which entity was read
@@ -354,49 +384,85 @@ module _ (t : Listing) (seed : ℕ) where
             ap (λ (v : List Watched × List Stream). v.0) same
 
   module _ (s u : Machine) (read : List Watched) (x : Transaction) (stays : Stays s u read x) where
-    entity_replies : (kind : EntityKind) (f g : Key → Eval ℤ) (of : Subject) (more : List Watched) (reply : ℤ) → Comes (entity_watched kind of) more →
-        AllIn read more → ((key : Key) → SameEntity kind key (kept_of s) (kept_of u) → f key ≡ g key) → Comes (subject_prog of ~> f) reply →
+    read_replies : (kind : EntityKind) (f g : Key → Eval ℤ) (of : Subject) (more : List Watched) (reply : ℤ) → Comes (entity_watched kind of) more →
+        AllIn read more → ((key : Key) → is_watched read (watched.Entity kind key) ≡ true → f key ≡ g key) → Comes (subject_prog of ~> f) reply →
         Comes (subject_prog of ~> g) reply
-    entity_replies kind f g of more reply reads all same is =
+    read_replies kind f g of more reply reads all same is =
         let found = entity_read kind of more reads in
         let key = found.0 in
         let there : AllIn read (watched.Entity kind key ∷ []) = subst (AllIn read) found.2 all in
-        let alike = same key (stays.entity kind key there.0) in
+        let alike = same key there.0 in
         together (subject_prog of) g key reply found.1
         (subst (λ p. Comes p reply) alike (behind (subject_prog of) f key reply found.1 is))
 
-    storage_there : (name : List ℕ) (more : List Watched) → Comes (storage_watched (subjects.Name name)) more → AllIn read more →
-        store_at u.entities (keys.Defined name) ≡ store_at s.entities (keys.Defined name)
-    storage_there name more reads all =
+    entity_replies : (kind : EntityKind) (f g : Key → Eval ℤ) (of : Subject) (more : List Watched) (reply : ℤ) → Comes (entity_watched kind of) more →
+        AllIn read more → ((key : Key) → KeptEntity kind key (kept_of s) (kept_of u) → f key ≡ g key) → Comes (subject_prog of ~> f) reply →
+        Comes (subject_prog of ~> g) reply
+    entity_replies kind f g of more reply reads all same is =
+        read_replies kind f g of more reply reads all (λ key there. same key (stays.entity kind key there)) is
+
+    counted_entity : (class : Class) → outlasts_reset class ≡ false → lasts_through resets class ≡ true →
+        (kind : EntityKind) (f g : Key → Eval ℤ) (of : Subject) (more : List Watched) (reply : ℤ) → Comes (entity_watched kind of) more →
+        AllIn read more → ((key : Key) → SameEntity kind key (kept_of s) (kept_of u) → f key ≡ g key) → Comes (subject_prog of ~> f) reply →
+        Comes (subject_prog of ~> g) reply
+    counted_entity class anew lasting kind f g of more reply reads all same is =
+        read_replies kind f g of more reply reads all (λ key there. same key (stays.counted (not_through resets class anew lasting) kind key there)) is
+
+    storage_read : (name : List ℕ) (more : List Watched) → Comes (defined_watched kinds.Storage (subjects.Name name)) more → AllIn read more →
+        is_watched read (watched.Entity kinds.Storage (keys.Defined name)) ≡ true
+    storage_read name more reads all =
         let one' : watched.Entity kinds.Storage (keys.Defined name) ∷ [] ≡ more = given_is _ more (reads []) in
         let there : AllIn read (watched.Entity kinds.Storage (keys.Defined name) ∷ []) = subst (AllIn read) (sym one') all in
-        stays.entity kinds.Storage (keys.Defined name) there.0
+        there.0
 
-    stored_replies : (f : Store → ℕ) (of : Subject) (more : List Watched) (reply : ℤ) → Comes (storage_watched of) more → AllIn read more →
-        Comes (storage_prog of (λ key. amount (f (store_at s.entities key)))) reply → Comes (storage_prog of (λ key. amount (f (store_at u.entities key)))) reply
-    stored_replies f subjects.Own more reply reads all is = λ streams. absurd (let no = is [] in cc)
-    stored_replies f (subjects.Number n) more reply reads all is = λ streams. absurd (let no = is [] in cc)
-    stored_replies f (subjects.Name name) more reply reads all is =
-        let there = storage_there name more reads all in
-        subst (λ p. Comes p reply) (sym (ap (λ (q : Store). amount (f q)) there)) is
+    content_there : (name : List ℕ) (more : List Watched) → Comes (defined_watched kinds.Storage (subjects.Name name)) more → AllIn read more →
+        (store_at u.entities (keys.Defined name)).level.content ≡ (store_at s.entities (keys.Defined name)).level.content
+    content_there name more reads all = stays.entity kinds.Storage (keys.Defined name) (storage_read name more reads all)
 
-    left_replies : (of : Subject) (more : List Watched) (reply : ℤ) → Comes (storage_watched of) more → AllIn read more →
+    storage_there : resets ≡ false → (name : List ℕ) (more : List Watched) → Comes (defined_watched kinds.Storage (subjects.Name name)) more →
+        AllIn read more → store_at u.entities (keys.Defined name) ≡ store_at s.entities (keys.Defined name)
+    storage_there none name more reads all = stays.counted none kinds.Storage (keys.Defined name) (storage_read name more reads all)
+
+    -- a number of a storage that is the same in both states, where it was read
+    abbrev StaysStored : (Store → ℕ) → Type 0
+    StaysStored f = (name : List ℕ) (more : List Watched) → Comes (defined_watched kinds.Storage (subjects.Name name)) more → AllIn read more →
+        f (store_at u.entities (keys.Defined name)) ≡ f (store_at s.entities (keys.Defined name))
+
+    stored_replies : (f : Store → ℕ) (of : Subject) (more : List Watched) (reply : ℤ) → StaysStored f → Comes (defined_watched kinds.Storage of) more →
+        AllIn read more →
+        Comes (defined_prog of (λ key. amount (f (store_at s.entities key)))) reply → Comes (defined_prog of (λ key. amount (f (store_at u.entities key)))) reply
+    stored_replies f subjects.Own more reply same reads all is = λ streams. absurd (let no = is [] in cc)
+    stored_replies f (subjects.Number n) more reply same reads all is = λ streams. absurd (let no = is [] in cc)
+    stored_replies f (subjects.Name name) more reply same reads all is =
+        subst (λ p. Comes p reply) (sym (ap (λ (n : ℕ). amount n) (same name more reads all))) is
+
+    table_replies : (of : Subject) (more : List Watched) (reply : ℤ) → resets ≡ false → Comes (defined_watched kinds.Table of) more →
+        AllIn read more →
+        Comes (defined_prog of (λ key. table_value s key)) reply → Comes (defined_prog of (λ key. table_value u key)) reply
+    table_replies subjects.Own more reply never reads all is = λ streams. absurd (let no = is [] in cc)
+    table_replies (subjects.Number n) more reply never reads all is = λ streams. absurd (let no = is [] in cc)
+    table_replies (subjects.Name name) more reply never reads all is =
+        let one' : watched.Entity kinds.Table (keys.Defined name) ∷ [] ≡ more = given_is _ more (reads []) in
+        let there : AllIn read (watched.Entity kinds.Table (keys.Defined name) ∷ []) = subst (AllIn read) (sym one') all in
+        let same = stays.counted never kinds.Table (keys.Defined name) there.0 in
+        subst (λ p. Comes p reply) (sym (ap (λ (values : List ℤ). amount (length values)) same)) is
+
+    left_replies : (of : Subject) (more : List Watched) (reply : ℤ) → Comes (defined_watched kinds.Storage of) more → AllIn read more →
         Comes (left_prog s of) reply → Comes (left_prog u of) reply
     left_replies subjects.Own more reply reads all is = λ streams. absurd (let no = is [] in cc)
     left_replies (subjects.Number n) more reply reads all is = λ streams. absurd (let no = is [] in cc)
     left_replies (subjects.Name name) more reply reads all is =
-        let there = storage_there name more reads all in
         subst (λ p. Comes p reply)
-        (sym (ap (λ (q : Store). asks (items.Named asking.Storage name) (λ capacity. amount (capacity - q.level.content))) there)) is
+        (sym (ap (λ (n : ℕ). asks (items.Named asking.Storage name) (λ capacity. amount (capacity - n))) (content_there name more reads all))) is
 
-    -- a count that the entries and the content of a block decide
+    -- a count of a block that is the same in both states, where it was read
     abbrev StaysCounted : (Count → ℕ) → Type 0
-    StaysCounted f = (id : ℕ) → tally u.counts id ≡ tally s.counts id → f (count_at u.counts id) ≡ f (count_at s.counts id)
+    StaysCounted f = (id : ℕ) → is_watched read (watched.Counts id) ≡ true → f (count_at u.counts id) ≡ f (count_at s.counts id)
 
     counted_replies : (f : Count → ℕ) (id : Option ℕ) (reply : ℤ) → StaysCounted f → AllIn read (counts_of id) →
         Comes (counted id (λ id. amount (f (count_at s.counts id)))) reply → Comes (counted id (λ id. amount (f (count_at u.counts id)))) reply
     counted_replies f None reply same all is = is
-    counted_replies f (Some id) reply same all is = subst (λ p. Comes p reply) (sym (ap amount (same id (stays.counts id all.0)))) is
+    counted_replies f (Some id) reply same all is = subst (λ p. Comes p reply) (sym (ap amount (same id all.0))) is
 
     block_replies : (f : Count → ℕ) (of : Subject) (more : List Watched) (reply : ℤ) → StaysCounted f → Comes (counts_watched of) more → AllIn read more →
         Comes (block_count of (λ id. amount (f (count_at s.counts id)))) reply → Comes (block_count of (λ id. amount (f (count_at u.counts id)))) reply
@@ -405,35 +471,40 @@ module _ (t : Listing) (seed : ℕ) where
     block_replies f (subjects.Name name) more reply same reads all is =
         counted_replies f (label_at t name) reply same (subst (AllIn read) (sym (given_is (counts_of (label_at t name)) more (reads []))) all) is
 
-    attribute_replies : (class : Class) (of : Subject) (more : List Watched) (reply : ℤ) → is_lasting class ≡ true → Comes (watched_prog class of) more →
+    attribute_replies : (class : Class) (of : Subject) (more : List Watched) (reply : ℤ) → lasts_through resets class ≡ true → Comes (watched_prog class of) more →
         AllIn read more → Comes (attribute_prog s (for_one s x) class of) reply → Comes (attribute_prog u (for_one u x) class of) reply
     unfolding attribute_prog watched_prog
     attribute_replies class.F of more reply lasting reads all is =
         entity_replies kinds.Facility (entity_value s class.F) (entity_value u class.F) of more reply reads all
-        (λ key same. ap (λ (f : Ownership). amount (owned f.owner)) (sym same)) is
+        (λ key same. ap (λ o. amount (owned o)) (sym same)) is
     attribute_replies class.Fc of more reply lasting reads all is =
-        entity_replies kinds.Facility (entity_value s class.Fc) (entity_value u class.Fc) of more reply reads all
+        counted_entity class.Fc refl lasting kinds.Facility (entity_value s class.Fc) (entity_value u class.Fc) of more reply reads all
         (λ key same. ap (λ (f : Ownership). amount f.captures) (sym same)) is
-    attribute_replies class.S of more reply lasting reads all is = stored_replies (λ q. q.level.content) of more reply reads all is
-    attribute_replies class.Sc of more reply lasting reads all is = stored_replies (λ q. q.entries) of more reply reads all is
-    attribute_replies class.Sm of more reply lasting reads all is = stored_replies (λ q. q.greatest) of more reply reads all is
+    attribute_replies class.S of more reply lasting reads all is = stored_replies (λ q. q.level.content) of more reply content_there reads all is
+    attribute_replies class.Sc of more reply lasting reads all is =
+        stored_replies (λ q. q.entries) of more reply
+        (λ name more reads all. ap (λ (q : Store). q.entries) (storage_there (not_through resets class.Sc refl lasting) name more reads all)) reads all is
+    attribute_replies class.Sm of more reply lasting reads all is =
+        stored_replies (λ q. q.greatest) of more reply
+        (λ name more reads all. ap (λ (q : Store). q.greatest) (storage_there (not_through resets class.Sm refl lasting) name more reads all)) reads all is
     attribute_replies class.R of more reply lasting reads all is = left_replies of more reply reads all is
     attribute_replies class.Q of more reply lasting reads all is =
         entity_replies kinds.Queue (entity_value s class.Q) (entity_value u class.Q) of more reply reads all
-        (λ key same. ap (λ (q : Line). amount q.level.content) (sym same)) is
+        (λ key same. ap (λ n. amount n) (sym same)) is
     attribute_replies class.Qc of more reply lasting reads all is =
-        entity_replies kinds.Queue (entity_value s class.Qc) (entity_value u class.Qc) of more reply reads all
+        counted_entity class.Qc refl lasting kinds.Queue (entity_value s class.Qc) (entity_value u class.Qc) of more reply reads all
         (λ key same. ap (λ (q : Line). amount q.entries) (sym same)) is
     attribute_replies class.Qm of more reply lasting reads all is =
-        entity_replies kinds.Queue (entity_value s class.Qm) (entity_value u class.Qm) of more reply reads all
+        counted_entity class.Qm refl lasting kinds.Queue (entity_value s class.Qm) (entity_value u class.Qm) of more reply reads all
         (λ key same. ap (λ (q : Line). amount q.greatest) (sym same)) is
     attribute_replies class.Qz of more reply lasting reads all is =
-        entity_replies kinds.Queue (entity_value s class.Qz) (entity_value u class.Qz) of more reply reads all
+        counted_entity class.Qz refl lasting kinds.Queue (entity_value s class.Qz) (entity_value u class.Qz) of more reply reads all
         (λ key same. ap (λ (q : Line). amount q.zero_entries) (sym same)) is
     attribute_replies class.N of more reply lasting reads all is =
-        block_replies (λ c. c.entries) of more reply (λ id same. ap (λ (n : ℕ × ℕ). n.0) same) reads all is
+        block_replies (λ c. c.entries) of more reply
+        (λ id there. ap (λ (n : ℕ × ℕ). n.0) (stays.entries (not_through resets class.N refl lasting) id there)) reads all is
     attribute_replies class.W of more reply lasting reads all is =
-        block_replies (λ c. c.content) of more reply (λ id same. ap (λ (n : ℕ × ℕ). n.1) same) reads all is
+        block_replies (λ c. c.content) of more reply stays.counts reads all is
     attribute_replies class.X of more reply lasting reads all is =
         entity_replies kinds.Savevalue (entity_value s class.X) (entity_value u class.X) of more reply reads all
         (λ key same. ap (λ o. gives (unwrap_or o (pos 0))) (sym same)) is
@@ -442,7 +513,12 @@ module _ (t : Listing) (seed : ℕ) where
         (λ key same. ap (λ b. amount (one_if b)) (sym same)) is
     attribute_replies class.Ch of more reply lasting reads all is =
         entity_replies kinds.UserChain (entity_value s class.Ch) (entity_value u class.Ch) of more reply reads all
-        (λ key same. ap (λ (c : UserChain). amount (length c.members)) (sym same)) is
+        (λ key same. ap (λ (xs : List Transaction). amount (length xs)) (sym same)) is
+    attribute_replies class.Cc of more reply lasting reads all is =
+        counted_entity class.Cc refl lasting kinds.UserChain (entity_value s class.Cc) (entity_value u class.Cc) of more reply reads all
+        (λ key same. ap (λ (c : UserChain). amount c.entries) (sym same)) is
+    attribute_replies class.Tc of more reply lasting reads all is =
+        table_replies of more reply (not_through resets class.Tc refl lasting) reads all is
     attribute_replies class.P of more reply lasting reads all is =
         let parts = bind_parts (subject_prog of) (λ key. parameter_value s (for_one s x) key) [] (reply, []) (is []) in
         let key = parts.0.0 in
@@ -452,9 +528,9 @@ module _ (t : Listing) (seed : ℕ) where
         (behind (subject_prog of) (λ key. parameter_value s (for_one s x) key) key reply there is))
     attribute_replies class.Pr of more reply lasting reads all is = is
     attribute_replies class.Xn1 of more reply lasting reads all is = is
-    attribute_replies class of more reply lasting reads all is = absurd cc
+    attribute_replies class of more reply lasting reads all is = absurd (let no = does_last resets class lasting in cc)
 
-    replies : (question : Question) (more : List Watched) (reply : Reply question) → IsLasting question → Comes (watched_by question) more →
+    replies : (question : Question) (more : List Watched) (reply : Reply question) → IsLasting resets question → Comes (watched_by question) more →
         AllIn read more → Comes (reply_prog s (for_one s x) question) reply → Comes (reply_prog u (for_one u x) question) reply
     replies (NumberOf name) more reply lasting reads all is = is
     replies (AttributeOf class of) more reply lasting reads all is = attribute_replies class of more reply lasting reads all is
@@ -535,33 +611,42 @@ module _ (p : ℕ) where
       ∙ (ap (nat_eq p) (marked_same change s.clock (placed x id)).1 ∙ second.0)) by_change.0
       ∙ (ap (λ cs. tally cs p) same.counts ∙ tally_elsewhere fate s.counts x.current id p first.0 second.0)
 
-  moved_tally : (s : Machine) (m : Move) → IsUnwritten (written s m) → tally (moved s m).counts p ≡ tally s.counts p
-  moved_tally s (moves.Start count arrivals) is = all_made_tally arrivals (making_of s)
-  moved_tally s moves.Command is = refl
-  moved_tally s (moves.Enter id change fate) is = go s.active is where
+  moved_tally : (s : Machine) (m : Move) → (Resets m → ⊥) → (Clears m → ⊥) → IsUnwritten (written s m) → tally (moved s m).counts p ≡ tally s.counts p
+  moved_tally s (moves.Start count arrivals) uncounted apart is = all_made_tally arrivals (making_of s)
+  moved_tally s moves.Command uncounted apart is = refl
+  moved_tally s moves.Reset uncounted apart is = absurd (uncounted tt)
+  moved_tally s moves.Clear uncounted apart is = absurd (apart tt)
+  moved_tally s (moves.Enter id change fate) uncounted apart is = go s.active is where
     go : (o : Option Transaction) → IsUnwritten (written_where o id change fate s) →
         tally (with_active o (λ x. entering s x id change fate) s).counts p ≡ tally s.counts p
     go None h = refl
     go (Some x) h = entering_tally s x id change fate h
-  moved_tally s (moves.Refuse id key units) is =
+  moved_tally s (moves.Refuse id key units) uncounted apart is =
       with_active_has (λ v. tally v.counts p ≡ tally s.counts p) s.active (λ x. refused s x id key units) s refl (λ x is. refl)
-  moved_tally s (moves.Watch read) is =
+  moved_tally s (moves.Watch read) uncounted apart is =
       with_active_has (λ v. tally v.counts p ≡ tally s.counts p) s.active (λ x. watching s x read) s refl (λ x is. refl)
-  moved_tally s moves.Pick is = picked_has (λ v. tally v.counts p ≡ tally s.counts p) s s.current refl (λ x xs is. refl)
-  moved_tally s (moves.Clock time) is = refl
+  moved_tally s moves.Pick uncounted apart is = picked_has (λ v. tally v.counts p ≡ tally s.counts p) s s.current refl (λ x xs is. refl)
+  moved_tally s (moves.Clock time) uncounted apart is = refl
+
+  -- a RESET leaves the content
+  moved_content : (s : Machine) (m : Move) → (Clears m → ⊥) → IsUnwritten (written s m) →
+      (count_at (moved s m).counts p).content ≡ (count_at s.counts p).content
+  moved_content s moves.Reset apart is = ap (λ (c : Count). c.content) (count_reset s p)
+  moved_content s moves.Clear apart is = absurd (apart tt)
+  moved_content s m apart is = ap (λ (n : ℕ × ℕ). n.1) (moved_tally s m (λ r. r) (λ c. c) is)
 
 -- ---- over a run
 
-test_came : (t : Listing) (seed : ℕ) (s : Machine) (q : Asker) (id : ℕ) (relation : Auxiliary) (first second : Term) (label : Option Term)
+test_came : (resets : Bool) (t : Listing) (seed : ℕ) (s : Machine) (q : Asker) (id : ℕ) (relation : Auxiliary) (first second : Term) (label : Option Term)
     (read : List Watched) (before after : List Stream) →
     result_of t seed (test_prog s q id relation (Some first) (Some second) label before) ≡ Ok (moves.Watch read, after) →
-    (x y : ℤ) × (holds relation x y ≡ false) × Came t seed s q read (operands.value_of first) x × Came t seed s q read (operands.value_of second) y
-test_came t seed s q id relation first second None read before after is =
-    let one' = bind_parts t seed (value_traced s q [] (Some first)) _ before (moves.Watch read, after) is in
-    let two = bind_parts t seed (value_traced s q one'.0.0.1 (Some second)) _ one'.0.1 (moves.Watch read, after) one'.2 in
+    (x y : ℤ) × (holds relation x y ≡ false) × Came resets t seed s q read (operands.value_of first) x × Came resets t seed s q read (operands.value_of second) y
+test_came resets t seed s q id relation first second None read before after is =
+    let one' = bind_parts resets t seed (value_traced s q [] (Some first)) _ before (moves.Watch read, after) is in
+    let two = bind_parts resets t seed (value_traced s q one'.0.0.1 (Some second)) _ one'.0.1 (moves.Watch read, after) one'.2 in
     let last = (passes_or t seed s id None two.0.0.1 (holds relation one'.0.0.0 two.0.0.0)).from two.0.1 (moves.Watch read, after) two.2 in
-    let left' = traced_came t seed s q [] (operands.value_of first) before one'.0 one'.1 in
-    let right' = traced_came t seed s q one'.0.0.1 (operands.value_of second) one'.0.1 two.0 two.1 in
+    let left' = traced_came resets t seed s q [] (operands.value_of first) before one'.0 one'.1 in
+    let right' = traced_came resets t seed s q one'.0.0.1 (operands.value_of second) one'.0.1 two.0 two.1 in
     let all : (w : Watched) → is_watched two.0.0.1 w ≡ true → is_watched read w ≡ true =
     λ w h. subst (λ list. is_watched list w ≡ true) (sym last.2) h in (
       one'.0.0.0,
@@ -570,24 +655,24 @@ test_came t seed s q id relation first second None read before after is =
       left'.1 read (λ w h. all w (right'.0 w h)),
       right'.1 read all,
     )
-test_came t seed s q id relation first second (Some label) read before after is =
-    let one' = bind_parts t seed (value_there s q (Some first)) _ before (moves.Watch read, after) is in
-    let two = bind_parts t seed (value_there s q (Some second)) _ one'.0.1 (moves.Watch read, after) one'.2 in
+test_came resets t seed s q id relation first second (Some label) read before after is =
+    let one' = bind_parts resets t seed (value_there s q (Some first)) _ before (moves.Watch read, after) is in
+    let two = bind_parts resets t seed (value_there s q (Some second)) _ one'.0.1 (moves.Watch read, after) one'.2 in
     let last = (passes_or t seed s id (Some label) [] (holds relation one'.0.0 two.0.0)).from two.0.1 (moves.Watch read, after) two.2 in
     absurd (let no : Some label ≡ None = last.0 in cc)
 
 -- where its block is a TEST, its relation did not hold of two values, and it waits for a change of what they read
-abbrev AtTest : Listing → ℕ → Machine → Waiter → Type 0
-AtTest t seed s w =
+abbrev AtTest : Bool → Listing → ℕ → Machine → Waiter → Type 0
+AtTest resets t seed s w =
     (id : ℕ) (b : Block) (first second : Term) → goes_to t w.transaction ≡ Some id → block_at t id ≡ Some b → b.verb ≡ blocks.Test →
     operand b A ≡ Some first → operand b B ≡ Some second →
     (x y : ℤ) × (holds b.auxiliary x y ≡ false)
-    × Came t seed s (for_one s w.transaction) w.read (operands.value_of first) x
-    × Came t seed s (for_one s w.transaction) w.read (operands.value_of second) y
+    × Came resets t seed s (for_one s w.transaction) w.read (operands.value_of first) x
+    × Came resets t seed s (for_one s w.transaction) w.read (operands.value_of second) y
 
-test_refused : (t : Listing) (seed : ℕ) (s : Machine) (read : List Watched) (r : IsRefusedAt t seed s read) →
-    AtTest t seed s (record { transaction = r.x; read = read })
-test_refused t seed s read r id b first second goes there verb one' two =
+test_refused : (resets : Bool) (t : Listing) (seed : ℕ) (s : Machine) (read : List Watched) (r : IsRefusedAt t seed s read) →
+    AtTest resets t seed s (record { transaction = r.x; read = read })
+test_refused resets t seed s read r id b first second goes there verb one' two =
     let same : r.id ≡ id = one_of r.id id (sym r.goes ∙ goes) in
     let at : block_at t r.id ≡ Some b = ap (block_at t) same ∙ there in
     let tries : result_of t seed (meet_prog s r.x r.id (Some b) r.before) ≡ Ok (moves.Watch read, r.after) =
@@ -599,7 +684,7 @@ test_refused t seed s read r id b first second goes there verb one' two =
     subst (λ o. result_of t seed (test_prog s q r.id b.auxiliary o (operand b B) (operand b C) r.before) ≡ Ok (moves.Watch read, r.after)) one' tests in
     let both : result_of t seed (test_prog s q r.id b.auxiliary (Some first) (Some second) (operand b C) r.before) ≡ Ok (moves.Watch read, r.after) =
     subst (λ o. result_of t seed (test_prog s q r.id b.auxiliary (Some first) o (operand b C) r.before) ≡ Ok (moves.Watch read, r.after)) two left' in
-    test_came t seed s q r.id b.auxiliary first second (operand b C) read r.before r.after both
+    test_came resets t seed s q r.id b.auxiliary first second (operand b C) read r.before r.after both
 
 -- whoever waits is not active
 not_active : (s : Machine) (w : Waiter) → IsNumbered s → Contains s.retry w → IsActive s w.transaction.number → ⊥
@@ -629,66 +714,147 @@ was_given s w h waits =
           omega arith)
     ]
 
-waiting_own : (t : Listing) (s : Machine) (m : Move) (w : Waiter) → s.next < 2 ^ 64 → IsDecided t s m → IsNumbered s → Contains s.retry w →
+waiting_own : (t : Listing) (s : Machine) (m : Move) (w : Waiter) → s.next < 2 ^ 64 → IsDecided t s m → (Clears m → ⊥) → IsNumbered s → Contains s.retry w →
     OwnStays s m w
-waiting_own t s m w low decided' numbered waits key = elim (moved_elsewhere w.transaction.number t s m low (was_given s w numbered waits) decided') [
+waiting_own t s m w low decided' apart numbered waits key = elim (moved_elsewhere w.transaction.number t s m low (was_given s w numbered waits) decided' apart) [
   | inl same ↦ ap (λ values. value_of values key) same
   | inr active ↦ absurd (not_active s w numbered waits active)
 ]
 
-abbrev Tested : Listing → ℕ → Machine → Move → Waiter → Type 0
-Tested t seed s m w = AtTest t seed s w × OwnStays s m w
+abbrev Tested : Bool → Listing → ℕ → Machine → Move → Waiter → Type 0
+Tested resets t seed s m w = AtTest resets t seed s w × ((Clears m → ⊥) → OwnStays s m w)
 
-coming_tested : (t : Listing) (seed : ℕ) (s : Machine) (m : Move) → IfWatches (IsRefusedAt t seed s) m → AllByRecursion (Tested t seed s m) (who_comes m s.active)
-coming_tested t seed s (moves.Watch read) r =
+coming_tested : (resets : Bool) (t : Listing) (seed : ℕ) (s : Machine) (m : Move) → IfWatches (IsRefusedAt t seed s) m → AllByRecursion (Tested resets t seed s m) (who_comes m s.active)
+coming_tested resets t seed s (moves.Watch read) r =
     let w : Waiter = record { transaction = r.x; read = read } in
     let own : OwnStays s (moves.Watch read) w = λ key.
     with_active_has (λ v. parameter_at v.parameters w.transaction.number key ≡ parameter_at s.parameters w.transaction.number key) s.active
     (λ x. watching s x read) s refl (λ x is. refl) in
-    subst (λ o. AllByRecursion (Tested t seed s (moves.Watch read)) (who_comes (moves.Watch read) o)) (sym r.active)
-    ((test_refused t seed s read r, own), tt)
-coming_tested t seed s m r = tt
+    subst (λ o. AllByRecursion (Tested resets t seed s (moves.Watch read)) (who_comes (moves.Watch read) o)) (sym r.active)
+    ((test_refused resets t seed s read r, λ apart. own), tt)
+coming_tested resets t seed s m r = tt
 
 each_tested : (P Q : Waiter → Type 0) (ws : List Waiter) → ((w : Waiter) → Stands ws w → Q w) → AllByRecursion P ws → AllByRecursion (λ w. P w × Q w) ws
 each_tested P Q [] each all = tt
 each_tested P Q (w ∷ ws) each all = ((all.0, each w (inl refl)), each_tested P Q ws (λ v there. each v (inr there)) all.1)
 
-test_stays : (t : Listing) (seed : ℕ) (s : Machine) (m : Move) (streams : List Stream) (w : Waiter) → is_woken (written s m) w ≡ false →
-    Tested t seed s m w → AtTest t seed (decided s m streams) w
-test_stays t seed s m streams w unread tested = λ id b first second goes there verb one' two.
+test_stays : (resets : Bool) (t : Listing) (seed : ℕ) (s : Machine) (m : Move) (streams : List Stream) → (resets ≡ false → Resets m → ⊥) → (w : Waiter) →
+    (Clears m → ⊥) → is_woken (written s m) w ≡ false →
+    Tested resets t seed s m w → AtTest resets t seed (decided s m streams) w
+test_stays resets t seed s m streams none w apart unread tested = λ id b first second goes there verb one' two.
     (let h = tested.0 id b first second goes there verb one' two in
     let u = decided s m streams in
-    let stays : Stays t seed s u w.read w.transaction = record {
-      entity = λ kind key read. moved_entity s m kind key (unread_unwritten (written s m) w.read (watched.Entity kind key) unread read);
-      counts = λ i read. moved_tally i s m (unread_unwritten (written s m) w.read (watched.Counts i) unread read);
-      own = tested.1;
+    let stays : Stays resets t seed s u w.read w.transaction = record {
+      entity = λ kind key read. moved_kept s m kind key apart (unread_unwritten (written s m) w.read (watched.Entity kind key) unread read);
+      counted = λ never kind key read.
+          moved_entity s m kind key (none never) apart (unread_unwritten (written s m) w.read (watched.Entity kind key) unread read);
+      counts = λ i read. moved_content i s m apart (unread_unwritten (written s m) w.read (watched.Counts i) unread read);
+      entries = λ never i read. moved_tally i s m (none never) apart (unread_unwritten (written s m) w.read (watched.Counts i) unread read);
+      own = tested.1 apart;
     } in (
       h.0,
       h.1,
       h.2,
-      still_came t seed s u w.read w.transaction stays (operands.value_of first) h.0 h.3,
-      still_came t seed s u w.read w.transaction stays (operands.value_of second) h.1 h.4,
+      still_came resets t seed s u w.read w.transaction stays (operands.value_of first) h.0 h.3,
+      still_came resets t seed s u w.read w.transaction stays (operands.value_of second) h.1 h.4,
     ))
 
-tests_fail : (t : Listing) (seed : ℕ) → Well t → (n : ℕ) (s : Machine) → run t seed n ≡ Ok s → n ≤ t.limit → AllByRecursion (AtTest t seed s) s.retry
-tests_fail t seed well =
-    over_decided t seed (λ n s. n ≤ t.limit → AllByRecursion (AtTest t seed s) s.retry) (λ within. tt)
-    (λ n s d there goes all within.
-    let early : n ≤ t.limit = omega (arith, within) in
-    let numbered = all_numbered t seed well n s there early in
-    let own : (w : Waiter) → Stands s.retry w → OwnStays s d.0 w =
-    λ w stands. waiting_own t s d.0 w (all_low t seed n s there) (is_decided t seed s d goes) numbered (contains_of s.retry w stands) in
-    all_wait_on (Tested t seed s d.0) (AtTest t seed (decided s d.0 d.1)) s d.0 d.1
-    (each_tested (AtTest t seed s) (OwnStays s d.0) s.retry own (all early))
-    (coming_tested t seed s d.0 (refused_at t seed s d goes)) (test_stays t seed s d.0 d.1))
+-- what a state of a run has and each decision behind it keeps, each later state has
+over_later : (t : Listing) (seed : ℕ) (P : ℕ → Machine → Type 0) (m : ℕ) (start : Machine) → run t seed m ≡ Ok start → P m start →
+    ((n : ℕ) (s : Machine) (d : Move × List Stream) → m ≤ n → run t seed n ≡ Ok s → result_of t seed (decide s) ≡ Ok d → P n s →
+    P (suc n) (decided s d.0 d.1)) →
+    (n : ℕ) (s : Machine) → m ≤ n → run t seed n ≡ Ok s → P n s
+over_later t seed P m start at first keeps zero v before is = let same : m ≡ zero = omega arith in here same where
+  here : m ≡ zero → P zero v
+  here same = let both : Ok start ≡ Ok v = sym at ∙ (ap (run t seed) same ∙ is) in let states : start ≡ v = cc in
+      subst (λ k. P k v) same (subst (P m) states first)
+over_later t seed P m start at first keeps (suc n) v before is =
+    elim (cases_lt n m) [
+      | inl late ↦ here (omega arith)
+      | inr early ↦
+          let last = last_step t seed n v is in
+          let went = went_on t seed last.before v last.goes in
+          subst (P (suc n)) (sym went.2)
+          (keeps n last.before went.0 early last.there went.1 (over_later t seed P m start at first keeps n last.before early last.there))
+    ]
+  where
+    here : m ≡ suc n → P (suc n) v
+    here same = let both : Ok start ≡ Ok v = sym at ∙ (ap (run t seed) same ∙ is) in let states : start ≡ v = cc in
+        subst (λ k. P k v) same (subst (P m) states first)
+
+each_stands : (Q : Waiter → Type 0) (ws : List Waiter) → ((w : Waiter) → Stands ws w → Q w) → AllByRecursion Q ws
+each_stands Q [] each = tt
+each_stands Q (w ∷ ws) each = (each w (inl refl), each_stands Q ws (λ v there. each v (inr there)))
+
+each_more : (P Q : Waiter → Type 0) (ws : List Waiter) → ((w : Waiter) → P w → Q w) → AllByRecursion P ws → AllByRecursion Q ws
+each_more P Q [] more all = tt
+each_more P Q (w ∷ ws) more all = (more w all.0, each_more P Q ws more all.1)
+
+-- whoever came behind a moment waits at no TEST that holds
+module _ (resets : Bool) (t : Listing) (seed : ℕ) (well : Well t) (m : ℕ) (start : Machine) where
+  abbrev CameOr : Machine → Waiter → Type 0
+  CameOr s w = Contains start.retry w ⊎ AtTest resets t seed s w
+
+  abbrev CameOrTested : Machine → Move → Waiter → Type 0
+  CameOrTested s move w = CameOr s w × ((Clears move → ⊥) → OwnStays s move w)
+
+  abbrev NoReset : ℕ → Type 0
+  NoReset n = resets ≡ false → NoneBetween commands.Reset t seed m n
+
+  came_stays : (s : Machine) (move : Move) (streams : List Stream) → (resets ≡ false → Resets move → ⊥) → (w : Waiter) → (Clears move → ⊥) →
+      is_woken (written s move) w ≡ false → CameOrTested s move w → CameOr (decided s move streams) w
+  came_stays s move streams none w apart unread (inl there, own) = inl there
+  came_stays s move streams none w apart unread (inr tested, own) = inr (test_stays resets t seed s move streams none w apart unread (tested, own))
+
+  tests_fail : run t seed m ≡ Ok start → (n : ℕ) (s : Machine) → m ≤ n → run t seed n ≡ Ok s → n ≤ t.limit → NoReset n →
+      AllByRecursion (CameOr s) s.retry
+  tests_fail at =
+      over_later t seed (λ n s. n ≤ t.limit → NoReset n → AllByRecursion (CameOr s) s.retry) m start at
+      (λ within none. each_stands (CameOr start) start.retry (λ w stands. inl (contains_of start.retry w stands)))
+      (λ n s d from there goes all within none.
+      let early : n ≤ t.limit = omega (arith, within) in
+      let numbered = all_numbered t seed well n s there early in
+      let own : (w : Waiter) → Stands s.retry w → (Clears d.0 → ⊥) → OwnStays s d.0 w =
+      λ w stands apart. waiting_own t s d.0 w (all_low t seed n s there) (is_decided t seed s d goes) apart numbered (contains_of s.retry w stands) in
+      let earlier : NoReset n = λ never k u start' below. none never k u start' (omega (arith, below)) in
+      let no_reset : resets ≡ false → Resets d.0 → ⊥ =
+      λ never. no_reset_decided t s d.0 (is_decided t seed s d goes) (none never n s from (omega arith) there) in
+      all_wait_on (CameOrTested s d.0) (CameOr (decided s d.0 d.1)) s d.0 d.1
+      (each_tested (CameOr s) (λ w. (Clears d.0 → ⊥) → OwnStays s d.0 w) s.retry own (all early earlier))
+      (each_more (Tested resets t seed s d.0) (CameOrTested s d.0) (who_comes d.0 s.active) (λ w tested. (inr tested.0, tested.1))
+      (coming_tested resets t seed s d.0 (refused_at t seed s d goes)))
+      (came_stays s d.0 d.1 no_reset))
+
+-- a run that came so far came to a state before
+state_before : (t : Listing) (seed m n : ℕ) (s : Machine) → m ≤ n → run t seed n ≡ Ok s → (u : Machine) × (run t seed m ≡ Ok u)
+state_before t seed m n s before is = go (run t seed m) refl where
+  go : (r : Result Machine End) → run t seed m ≡ r → (u : Machine) × (run t seed m ≡ Ok u)
+  go (Ok u) at = (u, at)
+  go (Err end) at = absurd (let no : Err end ≡ Ok s = sym (ends_for_good t seed m n end before at) ∙ is in cc)
+
+waits_at_test : (resets : Bool) (t : Listing) (seed m n : ℕ) (s : Machine) → Well t → n ≤ t.limit → run t seed n ≡ Ok s → (w : Waiter) →
+    Contains s.retry w → (resets ≡ false → WaitsSince t seed m n w) → AtTest resets t seed s w
+waits_at_test true t seed m n s well within is w waits since =
+    let all = tests_fail true t seed well 0 zero_state refl n s (omega arith) is within (λ never. absurd cc) in
+    elim (all_stands (CameOr true t seed well 0 zero_state s) s.retry w all (stands_of s.retry w waits)) [
+      | inl there ↦ absurd (omega (arith, there.1))
+      | inr tested ↦ tested
+    ]
+waits_at_test false t seed m n s well within is w waits since =
+    let h = since refl in
+    let first = state_before t seed m n s h.before is in
+    let all = tests_fail false t seed well m first.0 first.1 n s h.before is within (λ never. h.no_reset) in
+    elim (all_stands (CameOr false t seed well m first.0 s) s.retry w all (stands_of s.retry w waits)) [
+      | inl there ↦ absurd (h.not_yet first.0 first.1 there)
+      | inr tested ↦ tested
+    ]
 
 pub nobody_waits_at_a_test_that_holds : NobodyWaitsAtATestThatHolds
-nobody_waits_at_a_test_that_holds t seed n s well within is w id b first second x y waits goes there verb one' two left' right' =
+nobody_waits_at_a_test_that_holds resets t seed m n s well within is w id b first second x y waits since goes there verb one' two left' right' =
     let q = for_one s w.transaction in
-    let all = tests_fail t seed well n s is within in
-    let h = all_stands (AtTest t seed s) s.retry w all (stands_of s.retry w waits) id b first second goes there verb one' two in
-    let a : h.0 ≡ x = came_is t seed s q w.read (operands.value_of first) h.0 x h.3 left'.0 left'.1 in
-    let c : h.1 ≡ y = came_is t seed s q w.read (operands.value_of second) h.1 y h.4 right'.0 right'.1 in
+    let h = waits_at_test resets t seed m n s well within is w waits since id b first second goes there verb one' two in
+    let a : h.0 ≡ x = came_is resets t seed s q w.read (operands.value_of first) h.0 x h.3 left'.0 left'.1 in
+    let c : h.1 ≡ y = came_is resets t seed s q w.read (operands.value_of second) h.1 y h.4 right'.0 right'.1 in
     sym (ap₂ (holds b.auxiliary) a c) ∙ h.2
 
 -- ---- what tells what it read comes to the same

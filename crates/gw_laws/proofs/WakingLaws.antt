@@ -32,12 +32,15 @@ use Rattle.gw_laws.proofs.NumberLaws.{has_number, IsNumbered, all_numbered}
 use Rattle.gw_laws.proofs.Room.{all_within}
 use Rattle.gw_laws.proofs.DestinationLaws.{is_given, no_other, entered_waits_not}
 use Rattle.gw_meaning.proofs.Programs.{run_on}
+use Rattle.gw_laws.proofs.Anew.{no_clear, nobody_in}
+use Rattle.gw_laws.specs.Anew.{Clears}
+use Rattle.gw_frame.proofs.Decided.{is_decided}
 
 -- ---- where no block is entered
 
-all_wait_and : (s : Machine) (m : Move) (streams : List Stream) → written s m ≡ [] → (decided s m streams).retry ≡ s.retry ++ who_comes m s.active
-all_wait_and s m streams nothing =
-    ap (λ list. (woken list (moved s m)).retry) nothing ∙ (ap (λ (u : Machine). u.retry) (nobody_wakes (moved s m)) ∙ retry_behind s m)
+all_wait_and : (s : Machine) (m : Move) (streams : List Stream) → (Clears m → ⊥) → written s m ≡ [] → (decided s m streams).retry ≡ s.retry ++ who_comes m s.active
+all_wait_and s m streams apart nothing =
+    ap (λ list. (woken list (moved s m)).retry) nothing ∙ (ap (λ (u : Machine). u.retry) (nobody_wakes (moved s m)) ∙ retry_behind s m apart)
 
 no_entry : (s : Machine) (m : Move) → (IsEntry m → ⊥) → written s m ≡ []
 no_entry s (moves.Enter id change fate) apart = absurd (apart tt)
@@ -52,11 +55,12 @@ none_comes (moves.Watch read) = refl
 none_comes m = refl
 
 pub nobody_wakes_where_none_is_active : NobodyWakesWhereNoneIsActive
-nobody_wakes_where_none_is_active t seed s v is none =
+nobody_wakes_where_none_is_active t seed s v is no_next none =
     let went = went_on t seed s v is in
     let m = went.0.0 in
+    let apart = no_clear t s m (is_decided t seed s went.0 went.1) no_next in
     ap (λ (u : Machine). u.retry) went.2
-    ∙ (all_wait_and s m went.0.1 (none_writes s m none)
+    ∙ (all_wait_and s m went.0.1 apart (none_writes s m none)
     ∙ (ap (λ o. s.retry ++ who_comes m o) none ∙ (ap (λ ws. s.retry ++ ws) (none_comes m) ∙ append-nil s.retry)))
 
 same_behind : (t : Listing) (seed : ℕ) (s v : Machine) (m : Move) (streams : List Stream) → result_of t seed (decide s) ≡ Ok (m, streams) →
@@ -64,10 +68,10 @@ same_behind : (t : Listing) (seed : ℕ) (s v : Machine) (m : Move) (streams : L
 same_behind t seed s v m streams goes is = let both : Ok (decided s m streams) ≡ Ok v = sym (goes_on t seed s (m, streams) goes) ∙ is in cc
 
 pub nobody_wakes_unless_a_block_is_entered : NobodyWakesUnlessABlockIsEntered
-nobody_wakes_unless_a_block_is_entered t seed s v m streams goes is apart =
+nobody_wakes_unless_a_block_is_entered t seed s v m streams goes is no_next apart =
     let same = same_behind t seed s v m streams goes is in (
       who_comes m s.active,
-      ap (λ (u : Machine). u.retry) (sym same) ∙ all_wait_and s m streams (no_entry s m apart),
+      ap (λ (u : Machine). u.retry) (sym same) ∙ all_wait_and s m streams no_next (no_entry s m apart),
       who_comes_is m s.active,
     )
 
@@ -82,13 +86,18 @@ waits_or_enters s x (moves.Enter id change fate) streams active h low waits entr
     let delays : many has (waiting v.delays) ≡ 0 =
     ap (λ (u : Machine). many has (waiting u.delays)) same ∙ entered_waits_not s x id active h low change fate in
     let nobody = no_other s x id active h low in
-    let retry : v.retry ≡ filter (waits_on s m) s.retry = retry_decided s m streams ∙ append-nil (filter (waits_on s m) s.retry) in
+    let retry : v.retry ≡ filter (waits_on s m) s.retry = retry_decided s m streams (λ c. c) ∙ append-nil (filter (waits_on s m) s.retry) in
     let still : many has (transactions_of v.retry) ≡ many has (transactions_of (filter (waits_on s m) s.retry)) = ap (λ ws. many has (transactions_of ws)) retry in
     let parts = waiters_parts has (is_woken (written s m)) s.retry in
     let all = many_append has (waiting v.delays) (transactions_of v.retry) in
     let some = many_has has (waiting v.delays ++ transactions_of v.retry) waits.0 waits.1 (eq-eqb waits.0.number x.number waits.2) in
     omega arith
 waits_or_enters s x m streams active h low waits entry = absurd entry
+
+-- whoever waits behind a step, waits behind no CLEAR
+waits_at_no_clear : (s : Machine) (x : Transaction) (m : Move) (streams : List Stream) → HasToWait (decided s m streams) x → Clears m → ⊥
+waits_at_no_clear s x moves.Clear streams waits c = nobody_in waits.0 [] refl waits.1
+waits_at_no_clear s x m streams waits c = c
 
 pub nobody_wakes_where_the_active_has_to_wait : NobodyWakesWhereTheActiveHasToWait
 nobody_wakes_where_the_active_has_to_wait t seed n s v well within there is x active waits =
@@ -101,7 +110,7 @@ nobody_wakes_where_the_active_has_to_wait t seed n s v well within there is x ac
     let behind = subst (λ u. HasToWait u x) went.2 waits in (
       who_comes m s.active,
       ap (λ (u : Machine). u.retry) went.2
-          ∙ all_wait_and s m went.0.1 (no_entry s m (waits_or_enters s x m went.0.1 active h low behind)),
+          ∙ all_wait_and s m went.0.1 (waits_at_no_clear s x m went.0.1 behind) (no_entry s m (waits_or_enters s x m went.0.1 active h low behind)),
       who_comes_is m s.active,
     )
 
@@ -246,9 +255,9 @@ written_is_changed s (moves.Enter id change fate) streams r there = go s.active 
 written_is_changed s m streams r there = absurd there
 
 pub who_wakes_read_what_changed : WhoWakesReadWhatChanged
-who_wakes_read_what_changed t seed s v w m streams goes is waits gone =
+who_wakes_read_what_changed t seed s v w m streams goes is apart waits gone =
     let same = same_behind t seed s v m streams goes is in
-    let woke = was_woken s m streams w waits (λ still. gone (subst (λ (u : Machine). Contains u.retry w) same still)) in
+    let woke = was_woken s m streams w apart waits (λ still. gone (subst (λ (u : Machine). Contains u.retry w) same still)) in
     let read = any_stands (is_watched (written s m)) w.read woke in
     let one' = any_stands (same_watched read.0) (written s m) read.2 in
     let itself : one'.0 ≡ read.0 = sym (watched_same read.0 one'.0 one'.2) in

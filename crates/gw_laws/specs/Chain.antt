@@ -9,6 +9,7 @@ use Rattle.gw_meaning.specs.Listing.{Listing}
 use Rattle.gw_meaning.specs.Machine.{Machine, AreInOrder}
 use Rattle.gw_meaning.specs.Step.{step, run}
 use Rattle.gw_model.specs.Well.{Well}
+use Rattle.gw_laws.specs.Anew.{IsNoClear}
 
 -- no transaction stands behind one of lower priority
 abbrev pub ChainIsInOrder : Type 0
@@ -79,8 +80,8 @@ FutureKeepsItsOrder =
     run t seed n ≡ Ok s → run t seed (suc n) ≡ Ok v →
     KeepPlaces (numbers_coming s.future) (numbers_coming v.future)
 
--- nobody leaves the future chain but at his time
+-- nobody leaves the future chain but at his time, unless a CLEAR removes all; a RESET moves nobody
 abbrev pub NobodyLeavesBeforeHisTime : Type 0
 NobodyLeavesBeforeHisTime =
-    (t : Listing) (seed n : ℕ) (s v : Machine) → run t seed n ≡ Ok s → run t seed (suc n) ≡ Ok v →
+    (t : Listing) (seed n : ℕ) (s v : Machine) → run t seed n ≡ Ok s → run t seed (suc n) ≡ Ok v → IsNoClear t s →
     (e : Event) → Contains s.future e → Contains v.future e ⊎ (e.time ≡ v.clock)

@@ -3,12 +3,15 @@ use Rattle.std.specs.Prelude.{◌≡◌, ℕ, suc, ◌≤◌, ◌<◌, List, [],
 use Rattle.gw_meaning.specs.declared.transaction.Event.{Event}
 use Rattle.gw_meaning.specs.Listing.{Listing}
 use Rattle.gw_meaning.specs.Machine.{Machine}
+use Rattle.gw_meaning.specs.declared.statement.Command.TheVariants as commands
 use Rattle.gw_meaning.specs.Step.{step, run}
+use Rattle.gw_laws.specs.Anew.{NoneBetween}
 
--- it never goes back
+-- it never goes back, unless a CLEAR sets it to 0; a RESET leaves it
 abbrev pub ClockNeverGoesBack : Type 0
 ClockNeverGoesBack =
-    (t : Listing) (seed m n : ℕ) (s v : Machine) → m ≤ n → run t seed m ≡ Ok s → run t seed n ≡ Ok v → s.clock ≤ v.clock
+    (t : Listing) (seed m n : ℕ) (s v : Machine) → m ≤ n → run t seed m ≡ Ok s → run t seed n ≡ Ok v →
+    NoneBetween commands.Clear t seed m n → s.clock ≤ v.clock
 
 -- it stays within the horizon
 abbrev pub ClockStaysWithin : Type 0

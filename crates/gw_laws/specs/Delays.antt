@@ -10,6 +10,7 @@ use Rattle.gw_meaning.specs.Machine.{Machine, AreInOrder, delay_at}
 use Rattle.gw_meaning.specs.Changes.{placed}
 use Rattle.gw_meaning.specs.Step.{run}
 use Rattle.gw_model.specs.Well.{Well}
+use Rattle.gw_laws.specs.Anew.{IsNoClear}
 use Rattle.gw_laws.specs.Chain.{numbers_of, IsFirstInFirstOut, KeepPlaces}
 
 -- no transaction stands behind one of lower priority
@@ -50,10 +51,10 @@ WhoWaitsIsBound =
 abbrev pub IsLetIn : Transaction → Machine → Type 0
 IsLetIn x v = (id : ℕ) × (x.destination ≡ Some id) × Contains v.current (placed x id)
 
--- in a step, whoever waits goes on waiting or is let in
+-- in a step, whoever waits goes on waiting or is let in, unless a CLEAR removes all; a RESET moves nobody
 abbrev pub WhoLeavesIsLetIn : Type 0
 WhoLeavesIsLetIn =
-    (t : Listing) (seed n : ℕ) (s v : Machine) → run t seed n ≡ Ok s → run t seed (suc n) ≡ Ok v →
+    (t : Listing) (seed n : ℕ) (s v : Machine) → run t seed n ≡ Ok s → run t seed (suc n) ≡ Ok v → IsNoClear t s →
     (key : Key) (x : Transaction) → Contains (delay_at s.delays key) x →
     Contains (delay_at v.delays key) x ⊎ IsLetIn x v
 
@@ -67,10 +68,10 @@ pub record TakesOver (key : Key) (s v : Machine) : Type 0 where
   pub stands : Contains v.current (placed first block)
   pub owns : (facility_at v.entities key).owner ≡ Some first.number
 
--- so it is where the chain of a facility gets shorter in a step
+-- so it is where the chain of a facility gets shorter in a step, unless a CLEAR empties it; a RESET moves nobody
 abbrev pub FirstTakesOver : Type 0
 FirstTakesOver =
-    (t : Listing) (seed n : ℕ) (s v : Machine) → run t seed n ≡ Ok s → run t seed (suc n) ≡ Ok v →
+    (t : Listing) (seed n : ℕ) (s v : Machine) → run t seed n ≡ Ok s → run t seed (suc n) ≡ Ok v → IsNoClear t s →
     (key : Key) → is_storage key ≡ false → length (delay_at v.delays key) < length (delay_at s.delays key) →
     TakesOver key s v
 

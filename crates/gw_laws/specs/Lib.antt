@@ -1,3 +1,4 @@
+pub mod Anew
 pub mod Living
 pub mod Places
 pub mod Destinations

@@ -8,6 +8,8 @@ use Rattle.gw_meaning.specs.Machine.{Machine}
 use Rattle.gw_meaning.specs.Step.{run}
 use Rattle.gw_model.specs.Well.{Well}
 use Rattle.gw_laws.specs.Living.{living}
+use Rattle.gw_meaning.specs.declared.statement.Command.TheVariants as commands
+use Rattle.gw_laws.specs.Anew.{IsNoClear, NoneBetween}
 
 -- no two transactions have one number
 abbrev pub NumbersAreApart : Type 0
@@ -25,16 +27,17 @@ NumbersAreGiven =
 abbrev pub lives : Machine → ℕ → Bool
 lives s number = list_any (λ (x : Transaction). x.number == number) (living s)
 
--- no number is given twice: one that was given, and whose transaction is gone, does not come back
+-- no number is given twice: one that was given, and whose transaction is gone, does not come back, unless a CLEAR lets
+-- the numbering begin at 1 again; a RESET leaves it
 abbrev pub NumbersAreGivenOnce : Type 0
 NumbersAreGivenOnce =
     (t : Listing) (seed m n : ℕ) (s v : Machine) → Well t → m ≤ n → n ≤ t.limit →
-    run t seed m ≡ Ok s → run t seed n ≡ Ok v →
+    run t seed m ≡ Ok s → run t seed n ≡ Ok v → NoneBetween commands.Clear t seed m n →
     (number : ℕ) → number < s.next → lives s number ≡ false → lives v number ≡ false
 
--- in a step no transaction but the active one ceases to live
+-- in a step no transaction but the active one ceases to live, unless a CLEAR removes all; a RESET removes nobody
 abbrev pub OnlyTheActiveGoes : Type 0
 OnlyTheActiveGoes =
-    (t : Listing) (seed n : ℕ) (s v : Machine) → run t seed n ≡ Ok s → run t seed (suc n) ≡ Ok v →
+    (t : Listing) (seed n : ℕ) (s v : Machine) → run t seed n ≡ Ok s → run t seed (suc n) ≡ Ok v → IsNoClear t s →
     (number : ℕ) → lives s number ≡ true →
     (lives v number ≡ true) ⊎ ((x : Transaction) × (s.active ≡ Some x) × (x.number ≡ number))

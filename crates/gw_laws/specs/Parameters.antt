@@ -10,6 +10,7 @@ use Rattle.gw_meaning.specs.Step.{run}
 use Rattle.gw_model.specs.Well.{Well}
 use Rattle.gw_laws.specs.Living.{IsActive}
 use Rattle.gw_laws.specs.Numbering.{lives}
+use Rattle.gw_laws.specs.Anew.{IsNoClear}
 
 -- whether a transaction with this number has parameters
 abbrev pub has_parameters : Machine → ℕ → Bool
@@ -21,12 +22,12 @@ ParametersAreOfTheLiving =
     (t : Listing) (seed n : ℕ) (s : Machine) → run t seed n ≡ Ok s →
     (number : ℕ) → has_parameters s number ≡ true → lives s number ≡ true
 
--- in a step no parameters change but those of the active transaction: those that are kept under any other number that
--- was given before it are the same, none more, none fewer and none with another value (a copy that the step makes has
--- those of the active transaction: Copies)
+-- in a step no parameters change but those of the active transaction, unless a CLEAR forgets all (a RESET leaves them):
+-- those that are kept under any other number that was given before it are the same, none more, none fewer and none with
+-- another value (a copy that the step makes has those of the active transaction: Copies)
 abbrev pub ParametersAreOnesOwn : Type 0
 ParametersAreOnesOwn =
-    (t : Listing) (seed n : ℕ) (s v : Machine) → run t seed n ≡ Ok s → run t seed (suc n) ≡ Ok v →
+    (t : Listing) (seed n : ℕ) (s v : Machine) → run t seed n ≡ Ok s → run t seed (suc n) ≡ Ok v → IsNoClear t s →
     (number : ℕ) → number < s.next → (values_at v.parameters number ≡ values_at s.parameters number) ⊎ IsActive s number
 
 -- the parameters of one transaction: all stay, or one of them is set, and the others stay

@@ -14,10 +14,11 @@ use Rattle.gw_meaning.specs.declared.moves.Move.{Move}
 use Rattle.gw_meaning.specs.declared.moves.Move.TheVariants as moves
 use Rattle.gw_meaning.specs.Statements.{B, operand}
 use Rattle.gw_meaning.specs.Listing.{Listing, block_at}
-use Rattle.gw_meaning.specs.Machine.{Machine, UserChain, raised, user_chain_at}
+use Rattle.gw_meaning.specs.Machine.{Machine, no_chain, UserChain, raised, user_chain_at}
 use Rattle.gw_meaning.specs.Questions.{result_of}
 use Rattle.gw_meaning.specs.Step.{decide, step}
 use Rattle.gw_laws.specs.Living.{IsActive}
+use Rattle.gw_laws.specs.Anew.{Resets, Clears}
 
 -- a user chain, and who is on it, from the front
 abbrev pub chain_of : Machine → Key → UserChain
@@ -56,27 +57,42 @@ pub record OneCame (s : Machine) (m : Move) (key : Key) (before after : UserChai
   pub members : IsPlacedBy discipline who before.members after.members
   pub entries : after.entries ≡ raised before.entries
 
--- in a step a user chain stays as it is, an UNLINK of it takes some from its front, or a LINK to it brings one
+-- a RESET counts it anew, and moves nobody
+pub record CountedAnew (m : Move) (before after : UserChain) : Type 0 where
+  pub resets : Resets m
+  pub members : after.members ≡ before.members
+  pub entries : after.entries ≡ 0
+
+-- a CLEAR empties it
+pub record Emptied (m : Move) (after : UserChain) : Type 0 where
+  pub clears : Clears m
+  pub empty : after ≡ no_chain
+
+-- in a step a user chain stays as it is, an UNLINK of it takes some from its front, a LINK to it brings one, a RESET
+-- counts it anew, or a CLEAR empties it
 abbrev pub UserChainsChangeByLinkAndUnlink : Type 0
 UserChainsChangeByLinkAndUnlink =
     (t : Listing) (seed : ℕ) (s v : Machine) (m : Move) (streams : List Stream) →
     result_of t seed (decide s) ≡ Ok (m, streams) → step t seed s ≡ Ok v → (key : Key) →
     (chain_of v key ≡ chain_of s key)
-    ⊎ (TookFromTheFront m key (chain_of s key) (chain_of v key) ⊎ OneCame s m key (chain_of s key) (chain_of v key))
+    ⊎ (TookFromTheFront m key (chain_of s key) (chain_of v key)
+    ⊎ (OneCame s m key (chain_of s key) (chain_of v key)
+    ⊎ (CountedAnew m (chain_of s key) (chain_of v key) ⊎ Emptied m (chain_of v key))))
 
--- so where fewer are on it, the step was an UNLINK of it
+-- so where fewer are on it, the step was an UNLINK of it, unless it was a CLEAR
 abbrev pub FewerByUnlinkAlone : Type 0
 FewerByUnlinkAlone =
     (t : Listing) (seed : ℕ) (s v : Machine) (m : Move) (streams : List Stream) →
-    result_of t seed (decide s) ≡ Ok (m, streams) → step t seed s ≡ Ok v →
+    result_of t seed (decide s) ≡ Ok (m, streams) → step t seed s ≡ Ok v → (Clears m → ⊥) →
     (key : Key) → length (on_chain v key) < length (on_chain s key) →
     TookFromTheFront m key (chain_of s key) (chain_of v key)
 
--- whoever is on a user chain stays on it, or an UNLINK of it sends him to its block: then he is on the current chain
+-- whoever is on a user chain stays on it, or an UNLINK of it sends him to its block: then he is on the current chain.
+-- So it is unless a CLEAR removes all; a RESET moves nobody.
 abbrev pub WhoLeavesIsUnlinked : Type 0
 WhoLeavesIsUnlinked =
     (t : Listing) (seed : ℕ) (s v : Machine) (m : Move) (streams : List Stream) →
-    result_of t seed (decide s) ≡ Ok (m, streams) → step t seed s ≡ Ok v →
+    result_of t seed (decide s) ≡ Ok (m, streams) → step t seed s ≡ Ok v → (Clears m → ⊥) →
     (key : Key) (x : Transaction) → Contains (on_chain s key) x →
     Contains (on_chain v key) x
     ⊎ ((count : ℕ) × (to : Option ℕ) × IsUnlink key count to m

@@ -1,6 +1,6 @@
 -- Those who wait at a TEST or a GATE for a change of something that they read, over every run from zero. (Manual: retry
 -- chains.)
-use Rattle.std.specs.Prelude.{◌≡◌, ◌<◌, ◌≤◌, ◌⊎◌, ℕ, ℤ, suc, Bool, true, false, List, [], ◌∷◌, ◌++◌, Option, Some, None, Ok, Contains, filter, slice_get, Result, Err}
+use Rattle.std.specs.Prelude.{◌≡◌, ◌<◌, ◌≤◌, ◌⊎◌, ℕ, ℤ, suc, Bool, true, false, ◌&&◌, List, [], ◌∷◌, ◌++◌, Option, Some, None, Ok, Contains, filter, slice_get, Result, Err}
 use Rattle.std.specs.List.{list_any}
 use Rattle.gw_nums.specs.Range.{magnitude}
 use Rattle.gw_names.specs.declared.key.Key.{Key}
@@ -40,6 +40,8 @@ use Rattle.gw_meaning.specs.Step.{for_one, holds, is_open, decide, step, run}
 use Rattle.gw_model.specs.Well.{Well}
 use Rattle.gw_laws.specs.Delays.{IsLetIn}
 use Rattle.gw_laws.specs.Destinations.{goes_to, IsAtATestOrAGate}
+use Rattle.gw_meaning.specs.declared.statement.Command.TheVariants as commands
+use Rattle.gw_laws.specs.Anew.{Clears, IsNoClear, NoneBetween}
 
 -- w waits for a change
 abbrev pub Waits : Machine → Waiter → Type 0
@@ -62,18 +64,20 @@ WaitersKeepTheirOrder =
     (stays : Waiter → Bool) × (come : List Waiter) × (v.retry ≡ filter stays s.retry ++ come)
     × IsAtMostTheActive s.active come
 
--- of two of one priority whom a step wakes, the one who came first stands in front
+-- of two of one priority whom a step wakes, the one who came first stands in front (a CLEAR wakes nobody: it removes
+-- all; and a RESET wakes nobody)
 abbrev pub WokenInOrder : Type 0
 WokenInOrder =
-    (t : Listing) (seed n : ℕ) (s v : Machine) → run t seed n ≡ Ok s → run t seed (suc n) ≡ Ok v →
+    (t : Listing) (seed n : ℕ) (s v : Machine) → run t seed n ≡ Ok s → run t seed (suc n) ≡ Ok v → IsNoClear t s →
     (w u : Waiter) → StandsInFront s.retry w u → w.transaction.priority ≡ u.transaction.priority →
     (Waits v w → ⊥) → (Waits v u → ⊥) → StandsInFront v.current w.transaction u.transaction
 
--- whoever read something that the step writes wakes, and is on the current chain then; whoever did not, waits on
+-- whoever read something that the step writes wakes, and is on the current chain then; whoever did not, waits on,
+-- unless a CLEAR removes all
 abbrev pub WokenByWhatIsWritten : Type 0
 WokenByWhatIsWritten =
     (t : Listing) (seed : ℕ) (s v : Machine) (w : Waiter) (m : Move) (streams : List Stream) →
-    result_of t seed (decide s) ≡ Ok (m, streams) → step t seed s ≡ Ok v → Waits s w →
+    result_of t seed (decide s) ≡ Ok (m, streams) → step t seed s ≡ Ok v → (Clears m → ⊥) → Waits s w →
     (is_woken (written s m) w ≡ true → Contains v.current w.transaction)
     × (is_woken (written s m) w ≡ false → Waits v w)
 
@@ -84,10 +88,12 @@ WhoWaitsIsAtATestOrAGate =
     (t : Listing) (seed n : ℕ) (s : Machine) → run t seed n ≡ Ok s →
     (w : Waiter) → Waits s w → IsAtATestOrAGate t w.transaction
 
--- where no transaction is active, as where the clock moves on, one is picked or a command is done, nobody wakes
+-- where no transaction is active, as where the clock moves on, one is picked or a command is done, as a RESET, nobody
+-- wakes: all wait on, unless a CLEAR removes them
 abbrev pub NobodyWakesWhereNoneIsActive : Type 0
 NobodyWakesWhereNoneIsActive =
-    (t : Listing) (seed : ℕ) (s v : Machine) → step t seed s ≡ Ok v → s.active ≡ None → v.retry ≡ s.retry
+    (t : Listing) (seed : ℕ) (s v : Machine) → step t seed s ≡ Ok v → IsNoClear t s → s.active ≡ None →
+    v.retry ≡ s.retry
 
 -- the transaction x waits, on a delay chain or for a change
 abbrev pub HasToWait : Machine → Transaction → Type 0
@@ -108,11 +114,11 @@ abbrev pub IsEntry : Move → Type 0
 IsEntry (moves.Enter id change fate) = Unit {0}
 IsEntry move = ⊥
 
--- and so wherever no block is entered
+-- and so wherever no block is entered, unless a CLEAR removes all
 abbrev pub NobodyWakesUnlessABlockIsEntered : Type 0
 NobodyWakesUnlessABlockIsEntered =
     (t : Listing) (seed : ℕ) (s v : Machine) (m : Move) (streams : List Stream) →
-    result_of t seed (decide s) ≡ Ok (m, streams) → step t seed s ≡ Ok v → (IsEntry m → ⊥) →
+    result_of t seed (decide s) ≡ Ok (m, streams) → step t seed s ≡ Ok v → (Clears m → ⊥) → (IsEntry m → ⊥) →
     (come : List Waiter) × (v.retry ≡ s.retry ++ come) × IsAtMostTheActive s.active come
 
 -- a block that a transaction leaves for another, or that other one
@@ -150,11 +156,12 @@ abbrev pub IsChanged : Machine → Machine → Move → Watched → Type 0
 IsChanged s v (moves.Enter id change fate) w = IsChangedBy s v id change fate w
 IsChanged s v move w = ⊥
 
--- whoever wakes read something that the entry of a block changed
+-- whoever wakes read something that the entry of a block changed (whom a CLEAR removes does not wake)
 abbrev pub WhoWakesReadWhatChanged : Type 0
 WhoWakesReadWhatChanged =
     (t : Listing) (seed : ℕ) (s v : Machine) (w : Waiter) (m : Move) (streams : List Stream) →
-    result_of t seed (decide s) ≡ Ok (m, streams) → step t seed s ≡ Ok v → Waits s w → (Waits v w → ⊥) →
+    result_of t seed (decide s) ≡ Ok (m, streams) → step t seed s ≡ Ok v → (Clears m → ⊥) →
+    Waits s w → (Waits v w → ⊥) →
     (r : Watched) × Contains w.read r × IsChanged s v m r
 
 -- the entity that an operand names as it is written: by a name, which may stand for a number, by a number, or by the
@@ -183,10 +190,8 @@ NobodyWaitsAtAnOpenGate =
     b.auxiliary ≡ auxiliaries.Gate condition → key_written t (operand b A) ≡ Some key →
     is_open s condition key (capacity_of t key) ≡ false
 
--- what stays as it is until a block writes it: owners, contents, counts, savevalues and switches, who is on a user
--- chain, and what a transaction that waits has of its own. (A RESET would set counts of entries to 0 and greatest
--- contents to what is there, and wake nobody. None is read so far; once it is, the law below needs the premise that the
--- version has none, or these are left out. The entries of a user chain are left out already.)
+-- what stays as it is until a block writes it, but for a RESET: owners, contents, counts, savevalues and switches, who
+-- is on a user chain, and what a transaction that waits has of its own
 abbrev pub is_lasting : Class → Bool
 is_lasting class.F = true
 is_lasting class.Fc = true
@@ -203,42 +208,72 @@ is_lasting class.W = true
 is_lasting class.X = true
 is_lasting class.Ls = true
 is_lasting class.Ch = true
+is_lasting class.Cc = true
+is_lasting class.Tc = true
 is_lasting class.P = true
 is_lasting class.Pr = true
 is_lasting class.Xn1 = true
 is_lasting class = false
 
-abbrev pub IsLasting : Question → Type 0
-IsLasting (AttributeOf class of) = is_lasting class ≡ true
-IsLasting (PartOf of) = ⊥
-IsLasting question = Unit {0}
+-- what a RESET leaves of that as it is; the others it counts anew, and wakes nobody
+abbrev pub outlasts_reset : Class → Bool
+outlasts_reset class.Fc = false
+outlasts_reset class.Sc = false
+outlasts_reset class.Sm = false
+outlasts_reset class.Qc = false
+outlasts_reset class.Qm = false
+outlasts_reset class.Qz = false
+outlasts_reset class.N = false
+outlasts_reset class.Cc = false
+outlasts_reset class.Tc = false
+outlasts_reset class = true
+
+-- what lasts where RESETs may be done, and where none is
+abbrev pub lasts_through : Bool → Class → Bool
+lasts_through true class = is_lasting class && outlasts_reset class
+lasts_through false class = is_lasting class
+
+abbrev pub IsLasting : Bool → Question → Type 0
+IsLasting resets (AttributeOf class of) = lasts_through resets class ≡ true
+IsLasting resets (PartOf of) = ⊥
+IsLasting resets question = Unit {0}
 
 -- what an evaluation comes to, from any streams and without a draw
 abbrev pub ComesTo : {A : Type 0} → Listing → ℕ → Eval A → A → Type 0
 ComesTo t seed p a = (streams : List Stream) → result_of t seed (p streams) ≡ Ok (a, streams)
 
 -- an evaluation reads nothing in a state but what lasts
-abbrev pub ReadsWhatLasts : {A : Type 0} → Listing → ℕ → Machine → Asker → Evaluation A → Type 0
-ReadsWhatLasts t seed s q (Yields a) = Unit {0}
-ReadsWhatLasts t seed s q (Stops stop) = Unit {0}
-ReadsWhatLasts t seed s q (Wants question k) =
-    IsLasting question
-    × ((reply : Reply question) → ComesTo t seed (reply_prog s q question) reply → ReadsWhatLasts t seed s q (k reply))
+abbrev pub ReadsWhatLasts : {A : Type 0} → Bool → Listing → ℕ → Machine → Asker → Evaluation A → Type 0
+ReadsWhatLasts resets t seed s q (Yields a) = Unit {0}
+ReadsWhatLasts resets t seed s q (Stops stop) = Unit {0}
+ReadsWhatLasts resets t seed s q (Wants question k) =
+    IsLasting resets question
+    × ((reply : Reply question) → ComesTo t seed (reply_prog s q question) reply →
+    ReadsWhatLasts resets t seed s q (k reply))
 
 -- a value that reads nothing but what lasts, and what it comes to
-abbrev pub Lasts : Listing → ℕ → Machine → Asker → Term → ℤ → Type 0
-Lasts t seed s q term x =
-    ReadsWhatLasts t seed s q (value_of term) × ComesTo t seed (evaluated s q (value_of term)) x
+abbrev pub Lasts : Bool → Listing → ℕ → Machine → Asker → Term → ℤ → Type 0
+Lasts resets t seed s q term x =
+    ReadsWhatLasts resets t seed s q (value_of term) × ComesTo t seed (evaluated s q (value_of term)) x
 
--- nobody waits at a TEST whose relation holds of two values that read nothing but what lasts. (Within the step limit,
--- since numbers tell transactions apart there.)
+-- w came to wait behind the moment m, and no RESET was done from there up to the moment n
+pub record WaitsSince (t : Listing) (seed m n : ℕ) (w : Waiter) : Type 0 where
+  pub before : m ≤ n
+  pub not_yet : (u : Machine) → run t seed m ≡ Ok u → Waits u w → ⊥
+  pub no_reset : NoneBetween commands.Reset t seed m n
+
+-- nobody waits at a TEST whose relation holds of two values that read nothing but what lasts: where no RESET was done
+-- since he came to wait, what it counts anew lasts, too. (Within the step limit, since numbers tell transactions apart
+-- there.)
 abbrev pub NobodyWaitsAtATestThatHolds : Type 0
 NobodyWaitsAtATestThatHolds =
-    (t : Listing) (seed n : ℕ) (s : Machine) → Well t → n ≤ t.limit → run t seed n ≡ Ok s →
+    (resets : Bool) (t : Listing) (seed m n : ℕ) (s : Machine) → Well t → n ≤ t.limit → run t seed n ≡ Ok s →
     (w : Waiter) (id : ℕ) (b : Block) (first second : Term) (x y : ℤ) → Waits s w →
+    (resets ≡ false → WaitsSince t seed m n w) →
     goes_to t w.transaction ≡ Some id → block_at t id ≡ Some b → b.verb ≡ blocks.Test →
     operand b A ≡ Some first → operand b B ≡ Some second →
-    Lasts t seed s (for_one s w.transaction) first x → Lasts t seed s (for_one s w.transaction) second y →
+    Lasts resets t seed s (for_one s w.transaction) first x →
+    Lasts resets t seed s (for_one s w.transaction) second y →
     holds b.auxiliary x y ≡ false
 
 -- the result of an evaluation without what it read

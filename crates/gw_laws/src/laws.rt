@@ -1,4 +1,5 @@
 // Laws of every run from zero.
+ghost use Rattle.gw_laws.specs.Anew.{ClearBeginsAnew, ResetMovesNobody, ResetCountsAnew, TabulateAddsOneValue};
 ghost use Rattle.gw_laws.specs.Chain.{ChainIsInOrder, ChainIsFirstInFirstOut};
 ghost use Rattle.gw_laws.specs.Chain.{FirstBecomesActive, TheFirstIsPicked, AllOfATimeCome};
 ghost use Rattle.gw_laws.specs.Chain.{FutureKeepsItsOrder, NobodyLeavesBeforeHisTime};
@@ -37,7 +38,7 @@ ghost use Rattle.gw_laws.specs.Waiters.{NobodyWaitsAtAnOpenGate, NobodyWaitsAtAT
 /// stay keep their order, and those that come stand behind them. Whoever becomes active was the first of all, and where
 /// none is active while a START is under way, the first becomes so. Where the clock moves on, all transactions of its
 /// new time come, in the order in which they came onto the future chain. On that chain, whoever stays in a step keeps
-/// his place, and whoever comes stands behind. Nobody leaves it but at his time.
+/// his place, and whoever comes stands behind. Nobody leaves it but at his time, unless a CLEAR removes all.
 pub fn chain_in_order()
     ensures order { ChainIsInOrder }
     ensures turn { ChainIsFirstInFirstOut }
@@ -51,7 +52,7 @@ pub fn chain_in_order()
 /// Each delay chain is in order of priority. Of one priority, those that go on waiting keep their places in a step, and
 /// those that come stand behind them. Whoever waits has a block to go to. Whoever waits no longer stands on the current
 /// chain, in that block. At a facility, the first leaves first: where its chain gets shorter, its first transaction has
-/// left it, and owns the facility. Nobody waits at a free facility.
+/// left it, and owns the facility. So it is where no CLEAR removes all. Nobody waits at a free facility.
 pub fn delays_in_order()
     ensures order { DelaysAreInOrder }
     ensures turn { DelaysAreFirstInFirstOut }
@@ -64,8 +65,8 @@ pub fn delays_in_order()
 
 /// Whoever waits at a TEST or a GATE for a change keeps his place in a step, and at most the one who was active comes,
 /// as it was, behind the others. Whoever read something that the step writes wakes, and is on the current chain then,
-/// and whoever did not, waits on. Of two of one priority whom a step wakes, the one who came first stands in front. The
-/// block to which whoever waits so goes is a TEST or a GATE without a label.
+/// and whoever did not, waits on, unless a CLEAR removes all. Of two of one priority whom a step wakes, the one who
+/// came first stands in front. The block to which whoever waits so goes is a TEST or a GATE without a label.
 pub fn waiters_wake_in_order()
     ensures places { WaitersKeepTheirOrder }
     ensures turn { WokenInOrder }
@@ -73,10 +74,11 @@ pub fn waiters_wake_in_order()
     ensures there { WhoWaitsIsAtATestOrAGate }
 {}
 
-/// In a step a user chain stays as it is, an UNLINK of it takes some from its front, or a LINK to it brings the one who
-/// was active, to the back by FIFO and to the front by LIFO, and counts him. So where fewer are on it, the step was an UNLINK of it. Whoever leaves it is
-/// on the current chain then, sent to the block of that UNLINK. Where each LINK of the version has the order FIFO, each
-/// user chain is first in, first out.
+/// In a step a user chain stays as it is, an UNLINK of it takes some from its front, a LINK to it brings the one who
+/// was active, to the back by FIFO and to the front by LIFO, and counts him, a RESET counts it anew and moves nobody,
+/// or a CLEAR empties it. So where fewer are on it and the step was no CLEAR, it was an UNLINK of it. Whoever leaves it
+/// is on the current chain then, sent to the block of that UNLINK. Where each LINK of the version has the order FIFO,
+/// each user chain is first in, first out.
 pub fn user_chains_in_order()
     ensures served { UserChainsChangeByLinkAndUnlink }
     ensures fewer { FewerByUnlinkAlone }
@@ -85,10 +87,10 @@ pub fn user_chains_in_order()
 {}
 
 /// A transaction that enters a SPLIT stays active, and stands in its block. Each copy has a number of its own, in their
-/// order: so many are given as copies are made. It has the priority, the mark time, the block and the parameters of that
-/// transaction, and goes to the block of the SPLIT's label, or on from its own. It came to no queue. The copies stand on
-/// the current chain in the order of their numbers, behind all of their priority. A copy stands in its block and is no
-/// entry of it.
+/// order: so many are given as copies are made. It has the priority, the mark time, the block and the parameters of
+/// that transaction, and goes to the block of the SPLIT's label, or on from its own. It came to no queue. The copies
+/// stand on the current chain in the order of their numbers, behind all of their priority. A copy stands in its block
+/// and is no entry of it.
 pub fn copies_are_made()
     ensures parent { TheParentStaysActive }
     ensures numbers { EachCopyHasANumber }
@@ -101,10 +103,10 @@ pub fn copies_are_made()
 {}
 
 /// The clock, a pick, a command and a refused attempt wake nobody. Where no transaction is active, where the active one
-/// has to wait, and wherever no block is entered, all who waited wait on, in their order, and behind them at most the one
-/// who was active. Whoever wakes where a block is entered read something that changed: the counts of a block that is left
-/// or entered, by the active transaction or by one that is let in, the entity that the block names, or the user chain to
-/// which it links or from which it unlinks.
+/// has to wait, and wherever no block is entered, all who waited wait on, in their order, and behind them at most the
+/// one who was active, unless a CLEAR removes all. Whoever wakes where a block is entered read something that changed:
+/// the counts of a block that is left or entered, by the active transaction or by one that is let in, the entity that
+/// the block names, or the user chain to which it links or from which it unlinks.
 pub fn nobody_wakes_for_nothing()
     ensures idle { NobodyWakesWhereNoneIsActive }
     ensures refused { NobodyWakesWhereTheActiveHasToWait }
@@ -113,21 +115,23 @@ pub fn nobody_wakes_for_nothing()
 {}
 
 /// Nobody waits at a GATE whose condition holds of the entity that its operand names. Nobody waits at a TEST whose
-/// relation holds, where its values read nothing but what stays until a block writes it: F, FC, Q, QC, QM, QZ, S, R, SC,
-/// SM, N, W, X, LS and CH, and the parameters, the priority and the number of who waits.
+/// relation holds, where its values read nothing but what stays until a block writes it: F, Q, S, R, W, X, LS and CH,
+/// and the parameters, the priority and the number of who waits; and, where no RESET was done since he came to wait, FC,
+/// QC, QM, QZ, SC, SM, N, CC and TC, too.
 pub fn nobody_waits_for_what_holds()
     ensures gate { NobodyWaitsAtAnOpenGate }
     ensures test { NobodyWaitsAtATestThatHolds }
 {}
 
-/// An attempt that tells what it read, to wait for it, evaluates its operands as every other does: it comes to the same,
-/// ends the same, leaves the same streams, and asks no other items.
+/// An attempt that tells what it read, to wait for it, evaluates its operands as every other does: it comes to the
+/// same, ends the same, leaves the same streams, and asks no other items.
 pub fn telling_changes_nothing()
     ensures { TellingChangesNothing }
 {}
 
-/// No two transactions have one number, and each number was given: it is below the next one. No number is given twice.
-/// In a step no transaction but the active one ceases to live.
+/// No two transactions have one number, and each number was given: it is below the next one. No number is given twice,
+/// unless a CLEAR lets the numbering begin at 1 again. In a step no transaction but the active one ceases to live,
+/// unless a CLEAR removes all.
 pub fn numbers_apart()
     ensures apart { NumbersAreApart }
     ensures given { NumbersAreGiven }
@@ -140,8 +144,8 @@ pub fn parameters_are_of_the_living()
     ensures { ParametersAreOfTheLiving }
 {}
 
-/// Of those who were there before a step, only the active transaction's parameters, priority and mark time change in it,
-/// and at most one of its parameters.
+/// Of those who were there before a step, only the active transaction's parameters, priority and mark time change in
+/// it, and at most one of its parameters. A CLEAR forgets all of them.
 pub fn each_keeps_his_own()
     ensures parameters { ParametersAreOnesOwn }
     ensures one { OneParameterIsSet }
@@ -169,9 +173,10 @@ pub fn contents_are_counts()
     ensures { ContentsAreCounts }
 {}
 
-/// The clock never goes back and stays within the horizon, and no time on the future chain lies before it. It moves on
-/// only where no transaction was active or on the current chain, and only to the least time of the future chain. While
-/// a START is under way, it does so there, where that time lies within the horizon.
+/// The clock never goes back, unless a CLEAR sets it to 0, and stays within the horizon, and no time on the future
+/// chain lies before it. It moves on only where no transaction was active or on the current chain, and only to the
+/// least time of the future chain. While a START is under way, it does so there, where that time lies within the
+/// horizon.
 pub fn clock_goes_on()
     ensures clock { ClockNeverGoesBack }
     ensures within { ClockStaysWithin }
@@ -193,14 +198,15 @@ pub fn runs_end()
     ensures error { ErrorsAreOfAttempts }
 {}
 
-/// A facility has no more captures than steps were made. Its content is 1 while it is owned and 0 while it is free. It
-/// was owned for no longer than the clock has run, and it did not change later than now.
+/// A facility has no more captures than steps were made, and a RESET counts them anew. Its content is 1 while it is
+/// owned and 0 while it is free. It was owned for no longer than the clock has run, and it did not change later than
+/// now.
 pub fn facilities_are_used()
     ensures { FacilitiesAreUsed }
 {}
 
 /// Nobody but its owner gives a facility back. It goes to the first that waits for it, and is free where nobody does.
-/// Nobody but the active transaction takes one that was free before the step.
+/// Nobody but the active transaction takes one that was free before the step. Behind a CLEAR all are free.
 pub fn facilities_have_owners()
     ensures gives { OnlyTheOwnerGivesBack }
     ensures given { TheFirstIsGivenIt }
@@ -240,8 +246,22 @@ pub fn each_verb_is_evaluated()
     ensures { EachVerbIsEvaluated }
 {}
 
-/// Two questions of steps are one to the code where they are one, and not otherwise. So the first use of an item is that
-/// of no other one.
+/// Two questions of steps are one to the code where they are one, and not otherwise. So the first use of an item is
+/// that of no other one.
 pub fn items_are_told_apart()
     ensures { AnItemIsItself }
+{}
+
+/// Right behind a CLEAR the state is that before the first step, but for the streams and what is done of the commands.
+/// Behind a RESET each transaction stands where it stood, as it was; owners, contents, savevalues, switches, the clock,
+/// the next number and the streams stay; and entries, captures, the values of tables and the relative clock begin at 0.
+pub fn runs_begin_anew()
+    ensures cleared { ClearBeginsAnew }
+    ensures stays { ResetMovesNobody }
+    ensures counts { ResetCountsAnew }
+{}
+
+/// A TABULATE brings one value to its table, behind the others, and changes no other entity.
+pub fn a_table_takes_one_value()
+    ensures { TabulateAddsOneValue }
 {}

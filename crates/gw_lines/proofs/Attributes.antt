@@ -79,7 +79,7 @@ behind class.X rest = record { read = λ of e. savevalue_read rest of e; barred 
 behind class.Ls rest = record { read = λ of e. rw e refl; barred = λ h. rw h refl; value = refl; number = refl }
 behind class.Ch rest = record { read = λ of e. rw e refl; barred = λ h. rw h refl; value = refl; number = refl }
 behind class.Cc rest = record { read = λ of e. rw e refl; barred = λ h. rw h refl; value = refl; number = refl }
-behind class.Tc rest = record { read = λ of e. absurd cc; barred = λ h. rw h refl; value = refl; number = refl }
+behind class.Tc rest = record { read = λ of e. rw e refl; barred = λ h. rw h refl; value = refl; number = refl }
 behind class.Rn rest = record { read = λ of e. rw e refl; barred = λ h. rw h refl; value = refl; number = refl }
 behind class.V rest = record { read = λ of e. rw e refl; barred = λ h. rw h refl; value = refl; number = refl }
 behind class.Fn rest = record { read = λ of e. rw e refl; barred = λ h. rw h refl; value = refl; number = refl }
@@ -142,7 +142,6 @@ subject_found class scopes.Alone rest of s e = own_found class rest of s e
 subject_found class scopes.Entity rest of s e = entity_found class rest of (number_in 1000000000 rest) s refl e
 subject_found class scopes.Block rest of s e = named_so class rest of (λ word name h. of_block class word name s h) e
 subject_found class scopes.Stream rest of s e = stream_found class rest of s e
-subject_found class scopes.Later rest of s e = absurd cc
 
 -- an attribute that a text spells
 abbrev pub Spelled : List ℕ → Atom → Type 0

@@ -1,5 +1,5 @@
 -- The body that a verb's text spells: what is read is said so, what is said so is read, and the same of the first fault.
-use Rattle.std.proofs.Common.{◌≡◌, ℕ, true, List, [], ◌∷◌, Option, Some, None, Result, Ok, Err, refl, sym, ap, subst, ◌∙◌, ◌⊎◌, inl, inr}
+use Rattle.std.proofs.Common.{◌≡◌, ℕ, true, false, List, [], ◌∷◌, Option, Some, None, Result, Ok, Err, refl, sym, ap, subst, ◌∙◌, ◌⊎◌, inl, inr}
 use Rattle.std.proofs.lemmas.Bool.{cases_Bool}
 use Rattle.gw_names.specs.declared.verb.BlockVerb.TheVariants as blocks
 use Rattle.gw_names.specs.declared.verb.Verb.{Verb}
@@ -12,6 +12,7 @@ use Rattle.gw_lines.specs.declared.fault.LineFault.TheVariants as faults
 use Rattle.gw_lines.specs.declared.form.Form.{Form}
 use Rattle.gw_lines.specs.Reading.{◌>>=◌}
 use Rattle.gw_lines.specs.Forms.{forms_of, fields_of, points_of, lacks}
+use Rattle.gw_lines.specs.Fields.{misfits}
 use Rattle.gw_lines.specs.Parts.{is_given}
 use Rattle.gw_lines.specs.Auxiliaries.{HasAuxiliary, takes_operator, operator_of, auxiliary_of, bare_parts}
 use Rattle.gw_lines.specs.Bodies.{body_with, enough, in_forms, by_forms, operator_fault, body_of}
@@ -25,33 +26,34 @@ use Rattle.gw_lines.proofs.Rows.{built, made_with}
 
 -- parts that spell operands give a statement, where they lack none
 spelled_gives : (verb : Verb) (beside : Auxiliary) (forms : List Form) (parts : List (List ℕ)) (body : Body) → SpellsAll forms parts (fields_of body)
-    → verb_of_body body ≡ verb → HasAuxiliary body beside → points_of body ≡ []
+    → verb_of_body body ≡ verb → HasAuxiliary body beside → points_of body ≡ [] → misfits verb (fields_of body) ≡ false
     → in_forms verb beside forms parts ≡ (enough (lacks verb (fields_of body)) >>= λ given. done body)
 unfolding in_forms
-spelled_gives verb beside forms parts body s v has none =
+spelled_gives verb beside forms parts body s v has none fit =
+    let own = subst (λ (x : Verb). misfits x (fields_of body) ≡ false) (sym v) fit in
     let b : body_with verb beside (fields_of body) ≡ Some body =
-    ap (λ (x : Verb). body_with x beside (fields_of body)) (sym v) ∙ built body beside has none in
-    rw (operands_spelled s, b) refl
+    ap (λ (x : Verb). body_with x beside (fields_of body)) (sym v) ∙ built body beside has none own in
+    rw (operands_spelled verb s fit, b) refl
 
 said_again : {verb : Verb} {beside : Auxiliary} {parts : List (List ℕ)} {body : Body} → Says verb beside parts body
     → by_forms verb beside (forms_of verb beside (is_given parts)) parts ≡ Ok body
 said_again {verb} {beside} {parts} {body} s =
-    rw s.are_forms (spelled_gives verb beside s.forms parts body s.operands s.of_verb s.has_auxiliary s.pointless ∙ rw s.enough refl)
+    rw s.are_forms (spelled_gives verb beside s.forms parts body s.operands s.of_verb s.has_auxiliary s.pointless s.fit ∙ rw s.enough refl)
 
 faulted_again : {verb : Verb} {beside : Auxiliary} {parts : List (List ℕ)} {f : LineFault} → OperandFault verb beside parts f
     → by_forms verb beside (forms_of verb beside (is_given parts)) parts ≡ Err f
 unfolding in_forms
 faulted_again (in_list verb beside forms parts f e h) = rw (e, operands_faulted h) refl
-faulted_again (lacking verb beside forms parts os e s l) = rw (e, operands_spelled s, l) refl
+faulted_again (lacking verb beside forms parts os e s fit l) = rw (e, operands_spelled verb s fit, l) refl
 
 -- the parts say a statement, or have a first fault
 verdict : (verb : Verb) (beside : Auxiliary) (forms : List Form) (parts : List (List ℕ)) → forms_of verb beside (is_given parts) ≡ Some forms
     → ((body : Body) × Says verb beside parts body) ⊎ ((f : LineFault) × OperandFault verb beside parts f)
 verdict verb beside forms parts e =
-    elim (operands_verdict forms parts) [
+    elim (operands_verdict verb forms parts) [
       | inr h ↦ inr (h.0, in_list verb beside forms parts h.0 e h.1)
       | inl s ↦ elim (cases_Bool (lacks verb s.0)) [
-        | inl l ↦ inr (faults.MissingOperand 1, lacking verb beside forms parts s.0 e s.1 l)
+        | inl l ↦ inr (faults.MissingOperand 1, lacking verb beside forms parts s.0 e s.1 s.2 l)
         | inr enough ↦
             let m = made_with verb beside (is_given parts) forms e s.1 in
             inl (
@@ -62,6 +64,7 @@ verdict verb beside forms parts e =
                 of_verb = m.verb_is;
                 has_auxiliary = m.has_auxiliary;
                 operands = rw m.fields s.1;
+                fit = rw m.fields s.2;
                 enough = rw m.fields enough;
                 pointless = m.pointless;
               },

@@ -4,9 +4,8 @@ use Rattle.std.specs.Prelude.{ℤ, map, option_map, pos, unwrap_or}
 use Rattle.std.proofs.lemmas.Bool.{and_parts}
 use Rattle.gw_expr.specs.declared.atom.Atom.TheVariants as atoms
 use Rattle.gw_expr.specs.Expressions.{postfix}
-use Rattle.gw_expr.specs.declared.expr.Discipline.{Discipline}
 use Rattle.gw_expr.specs.declared.expr.Discipline.TheVariants as disciplines
-use Rattle.gw_expr.specs.Term.{Term, Value, Computed, Defined, Fraction, Label, Named, Order}
+use Rattle.gw_expr.specs.Term.{Term, Value, Computed, Defined, Fraction, Label, Named, Order, Table}
 use Rattle.gw_expr.specs.declared.function.FunctionType.{FunctionType}
 use Rattle.gw_expr.specs.declared.function.FunctionType.TheVariants as types
 use Rattle.gw_lines.specs.declared.form.Kind.{Kind}
@@ -18,7 +17,7 @@ use Rattle.gw_lines.specs.declared.operand.Operand.{Operand}
 use Rattle.gw_lines.specs.declared.operand.Operand.TheVariants as operands
 use Rattle.gw_lines.specs.Forms.{value, whole}
 use Rattle.gw_lines.specs.Parts.{part_of, is_missing}
-use Rattle.gw_lines.specs.Spelling.{SpellsOperand, absent, a_value, a_constant, named_value, attribute_value, computed_value, a_whole, a_key, named_entity, numbered_entity, attribute_entity, computed_entity, a_fraction, a_label, a_definition, an_expression, continuous, discrete, first_in_first_out, last_in_first_out, unbounded, a_bound, SpellsAll, no_form, stands, unwritten}
+use Rattle.gw_lines.specs.Spelling.{SpellsOperand, absent, a_value, a_constant, named_value, attribute_value, computed_value, a_whole, a_key, named_entity, numbered_entity, attribute_entity, computed_entity, a_fraction, a_label, a_definition, a_table, an_expression, continuous, discrete, first_in_first_out, last_in_first_out, unbounded, a_bound, SpellsAll, no_form, stands, unwritten}
 
 abbrev pub Data : Kind → Type 0
 Data kinds.Value = Term
@@ -29,6 +28,7 @@ Data kinds.Entity = Term
 Data kinds.Fraction = Term
 Data kinds.Label = Term
 Data kinds.Defined = Term
+Data kinds.Table = Term
 Data kinds.Expression = Term
 Data kinds.Points = FunctionType × ℕ
 Data kinds.Order = Term
@@ -43,6 +43,7 @@ data_operand kinds.Entity t = Some (operands.Value t)
 data_operand kinds.Fraction t = Some (operands.Value t)
 data_operand kinds.Label t = Some (operands.Value t)
 data_operand kinds.Defined t = Some (operands.Value t)
+data_operand kinds.Table t = Some (operands.Value t)
 data_operand kinds.Expression t = Some (operands.Value t)
 data_operand kinds.Points (type, n) = Some (operands.Points type n)
 data_operand kinds.Order t = Some (operands.Value t)
@@ -62,6 +63,7 @@ maybe kinds.Entity d = value d
 maybe kinds.Fraction d = value d
 maybe kinds.Label d = value d
 maybe kinds.Defined d = value d
+maybe kinds.Table d = value d
 maybe kinds.Expression d = value d
 maybe kinds.Points d = option_map (λ (p : FunctionType × ℕ). operands.Points p.0 p.1) d
 maybe kinds.Order d = value d
@@ -76,6 +78,7 @@ maybe_some kinds.Entity d = refl
 maybe_some kinds.Fraction d = refl
 maybe_some kinds.Label d = refl
 maybe_some kinds.Defined d = refl
+maybe_some kinds.Table d = refl
 maybe_some kinds.Expression d = refl
 maybe_some kinds.Points (type, n) = refl
 maybe_some kinds.Order d = refl
@@ -90,6 +93,7 @@ maybe_none kinds.Entity = refl
 maybe_none kinds.Fraction = refl
 maybe_none kinds.Label = refl
 maybe_none kinds.Defined = refl
+maybe_none kinds.Table = refl
 maybe_none kinds.Expression = refl
 maybe_none kinds.Points = refl
 maybe_none kinds.Order = refl
@@ -117,6 +121,7 @@ data_of (computed_entity text e s) = inl (Computed (postfix e), refl)
 data_of (a_fraction text n f) = inl (Fraction n, refl)
 data_of (a_label text name e) = inl (Label name, refl)
 data_of (a_definition text name e) = inl (Defined name, refl)
+data_of (a_table text name e) = inl (Table name, refl)
 data_of (an_expression text e s) = inl (Computed (postfix e), refl)
 data_of (continuous digits n h from) = inl ((types.Continuous, n), refl)
 data_of (discrete digits n h from) = inl ((types.Discrete, n), refl)
@@ -205,6 +210,7 @@ is_value kinds.Entity = true
 is_value kinds.Fraction = true
 is_value kinds.Label = true
 is_value kinds.Defined = true
+is_value kinds.Table = true
 is_value kinds.Expression = true
 is_value kinds.Order = true
 is_value kinds.Bound = true
@@ -227,6 +233,7 @@ one_value w (computed_entity text e s) = (Some (Computed (postfix e)), refl)
 one_value w (a_fraction text n f) = (Some (Fraction n), refl)
 one_value w (a_label text name e) = (Some (Label name), refl)
 one_value w (a_definition text name e) = (Some (Defined name), refl)
+one_value w (a_table text name e) = (Some (Table name), refl)
 one_value w (an_expression text e s) = (Some (Computed (postfix e)), refl)
 one_value w (continuous digits n h from) = absurd cc
 one_value w (discrete digits n h from) = absurd cc
@@ -260,6 +267,7 @@ one_whole w (computed_entity text e s) = absurd cc
 one_whole w (a_fraction text n f) = absurd cc
 one_whole w (a_label text name e) = absurd cc
 one_whole w (a_definition text name e) = absurd cc
+one_whole w (a_table text name e) = absurd cc
 one_whole w (an_expression text e s) = absurd cc
 one_whole w (continuous digits n h from) = absurd cc
 one_whole w (discrete digits n h from) = absurd cc

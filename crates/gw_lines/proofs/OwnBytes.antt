@@ -26,7 +26,7 @@ use Rattle.gw_lines.specs.Parts.{split, parts_of, part_of, others_of}
 use Rattle.gw_lines.specs.Auxiliaries as signs
 use Rattle.gw_lines.specs.Auxiliaries.{operators, operator_word, takes_operator, operator_of, takes_sign, last_byte, sign_in, cut_off, auxiliary_of, bare_parts}
 use Rattle.gw_lines.specs.Spelling as spelling
-use Rattle.gw_lines.specs.Spelling.{AreIn, Stops, Digits, first_digit, next_digit, Value, without_sign, with_sign, Rank, Multiplies, times, quotient, remainder, Adds, plus, minus, SpellsExpression, a_single, with_minus, in_parentheses, a_factor, multiplied, a_product, summed, SpellsOperand, absent, a_value, a_constant, named_value, attribute_value, computed_value, a_whole, a_key, named_entity, numbered_entity, attribute_entity, computed_entity, a_fraction, a_label, a_definition, an_expression, continuous, discrete, first_in_first_out, last_in_first_out, unbounded, a_bound, SpellsAll, no_form, stands, unwritten, is_part, Part, nothing, mark, opening, closing, stray, inner_comma, inner_blank, Written, none_written, last_written, never_closed, more_written, Head, first_word, second_word, Label, no_label, named, ArePlain, Numbering, unnumbered, Says, Cut, HasWords, Coded, Spells}
+use Rattle.gw_lines.specs.Spelling.{AreIn, Stops, Digits, first_digit, next_digit, Value, without_sign, with_sign, Rank, Multiplies, times, quotient, remainder, Adds, plus, minus, SpellsExpression, a_single, with_minus, in_parentheses, a_factor, multiplied, a_product, summed, SpellsOperand, absent, a_value, a_constant, named_value, attribute_value, computed_value, a_whole, a_key, named_entity, numbered_entity, attribute_entity, computed_entity, a_fraction, a_label, a_definition, a_table, an_expression, continuous, discrete, first_in_first_out, last_in_first_out, unbounded, a_bound, SpellsAll, no_form, stands, unwritten, is_part, Part, nothing, mark, opening, closing, stray, inner_comma, inner_blank, Written, none_written, last_written, never_closed, more_written, Head, first_word, second_word, Label, no_label, named, ArePlain, Numbering, unnumbered, Says, Cut, HasWords, Coded, Spells}
 use Rattle.gw_lines.proofs.Fronts.{front_all, parts}
 use Rattle.gw_lines.proofs.Results.{found_so, some_is}
 use Rattle.gw_lines.proofs.Bytes.{Pass, Takes, both_pass, one_passes, next_passes, digits_pass, named_passes, attribute_passes, atom_passes}
@@ -95,6 +95,7 @@ operand_own (computed_entity text e s) = closed_own text (expression_own s)
 operand_own (a_fraction text n f) = fraction_own f
 operand_own (a_label text name e) = named_passes own text name e
 operand_own (a_definition text name e) = named_passes own text name e
+operand_own (a_table text name e) = named_passes own text name e
 operand_own (an_expression text e s) = expression_own s
 operand_own (continuous digits n h from) = next_passes is_own 67 digits refl (digits_pass own h.digits)
 operand_own (discrete digits n h from) = next_passes is_own 68 digits refl (digits_pass own h.digits)

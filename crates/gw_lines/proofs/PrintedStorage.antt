@@ -78,6 +78,7 @@ storage_says amount from to =
       operands = subst (λ (ps : List (List ℕ)). SpellsAll (a_count ∷ []) ps (Some (operands.Whole amount) ∷ [])) (sym g.0)
           (stands a_count [] (decimal amount ∷ []) (Some (operands.Whole amount)) [] refl g.1
           (a_whole 1000000000 (decimal amount) amount (record { digits = d; small = to }) from) no_form);
+      fit = refl;
       enough = refl;
       pointless = refl;
     }

@@ -1,7 +1,7 @@
 -- A statement is made of its operands, and operands of a verb's forms make a statement. All blocks are one case; a command
 -- has a row in `built` and a row in `command_made`, and a definition one in `built` and one in `definition_made`.
 use Rattle.std.proofs.Common.{◌≡◌, ℕ, Bool, true, false, List, [], ◌∷◌, Option, Some, None, refl, ap, subst}
-use Rattle.std.specs.Prelude.{map, if◌then◌else◌}
+use Rattle.std.specs.Prelude.{ℤ, map, is_none, if◌then◌else◌}
 use Rattle.gw_names.specs.declared.verb.BlockVerb.{BlockVerb}
 use Rattle.gw_names.specs.declared.verb.BlockVerb.TheVariants as blocks
 use Rattle.gw_names.specs.declared.verb.DefinitionVerb.{DefinitionVerb}
@@ -11,6 +11,7 @@ use Rattle.gw_names.specs.declared.verb.CommandVerb.TheVariants as command_verbs
 use Rattle.gw_names.specs.declared.verb.Verb.{Verb}
 use Rattle.gw_names.specs.declared.verb.Verb.TheVariants as verbs
 use Rattle.gw_expr.specs.Term.{Term}
+use Rattle.gw_meaning.specs.Classes.{is_scale, scale_of}
 use Rattle.gw_meaning.specs.declared.statement.Definition.TheVariants as definitions
 use Rattle.gw_meaning.specs.declared.statement.Command.TheVariants as commands
 use Rattle.gw_meaning.specs.declared.auxiliary.Auxiliary.{Auxiliary}
@@ -20,7 +21,8 @@ use Rattle.gw_meaning.specs.Statements.{verb_of_body}
 use Rattle.gw_lines.specs.declared.form.Form.{Form}
 use Rattle.gw_lines.specs.declared.operand.Operand.{Operand}
 use Rattle.gw_lines.specs.Forms.{a_definition, an_entity, another_label, asks_storage, forms_of_block, forms_of_definition, forms_of_command, forms_of, value, whole, fields_of, points_of}
-use Rattle.gw_lines.specs.Bodies.{value_in, whole_in, body_with}
+use Rattle.gw_lines.specs.Fields.{value_in, whole_in, misfits}
+use Rattle.gw_lines.specs.Bodies.{table_with, body_with}
 use Rattle.gw_lines.specs.Auxiliaries.{HasAuxiliary}
 use Rattle.gw_lines.specs.Spelling.{SpellsAll}
 use Rattle.gw_lines.proofs.Fields.{Row, row_operands, have_places, row, is_value, are_all, values, wholes}
@@ -39,16 +41,27 @@ values_back [] = refl
 values_back (v ∷ values) = rw (value_back v, values_back values) refl
 
 -- a statement is made of its operands and what stands beside them
+table_built : (argument : Term) (first : ℤ) (width count : ℕ) (lawful : Bool) → is_scale (record { first = first; width = width; count = count }) ≡ lawful
+    → is_none (scale_of first width count) ≡ false
+    → table_with (Some argument) (scale_of first width count)
+    ≡ Some (bodies.Definition (definitions.Table (record { argument = argument; classes = record { first = first; width = width; count = count } })))
+table_built argument first width count true is fit = rw is refl
+table_built argument first width count false is fit = absurd (let f = rw is at fit in cc)
+
 pub built : (body : Body) (beside : Auxiliary) → HasAuxiliary body beside → points_of body ≡ []
-    → body_with (verb_of_body body) beside (fields_of body) ≡ Some body
+    → misfits (verb_of_body body) (fields_of body) ≡ false → body_with (verb_of_body body) beside (fields_of body) ≡ Some body
 unfolding body_with
-built (bodies.Block block) beside has none = rw (values_back block.operands, ← has) refl
-built (bodies.Definition (definitions.Storage capacity)) beside has none = refl
-built (bodies.Definition (definitions.Equ z)) beside has none = refl
-built (bodies.Definition (definitions.Variable expression)) beside has none = refl
-built (bodies.Definition (definitions.Function function)) beside has none = rw none refl
-built (bodies.Command (commands.Start count)) beside has none = refl
-built (bodies.Command (commands.Rmult values)) beside has none = rw (wholes_back values) refl
+built (bodies.Block block) beside has none fit = rw (values_back block.operands, ← has) refl
+built (bodies.Definition (definitions.Storage capacity)) beside has none fit = refl
+built (bodies.Definition (definitions.Equ z)) beside has none fit = refl
+built (bodies.Definition (definitions.Variable expression)) beside has none fit = refl
+built (bodies.Definition (definitions.Function function)) beside has none fit = rw none refl
+built (bodies.Definition (definitions.Table table)) beside has none fit =
+    let c = table.classes in table_built table.argument c.first c.width c.count (is_scale c) refl fit
+built (bodies.Command (commands.Start count)) beside has none fit = refl
+built (bodies.Command (commands.Rmult values)) beside has none fit = rw (wholes_back values) refl
+built (bodies.Command commands.Reset) beside has none fit = refl
+built (bodies.Command commands.Clear) beside has none fit = refl
 
 -- ---- each verb's forms make a statement
 
@@ -107,14 +120,22 @@ definition_made definition_verbs.Variable beside =
 definition_made definition_verbs.Function beside =
     of_row (verbs.Definition definition_verbs.Function) beside _ refl
     (λ (a, ((t, n), u)). makes (bodies.Definition (definitions.Function (record { argument = a; kind = t; count = n; points = [] }))) beside tt refl refl)
-definition_made verb beside = tt
+definition_made definition_verbs.Table beside =
+    of_row (verbs.Definition definition_verbs.Table) beside _ refl
+    (λ (a, (z, (w, (n, u)))). makes (bodies.Definition (definitions.Table (record {
+      argument = a;
+      classes = record { first = z; width = w; count = n };
+    }))) beside tt refl refl)
 
 command_made : (verb : CommandVerb) (beside : Auxiliary) → MadeOf (verbs.Command verb) beside (forms_of_command verb)
 command_made command_verbs.Start beside =
     of_row (verbs.Command command_verbs.Start) beside _ refl (λ (c, (q, u)). makes (bodies.Command (commands.Start c)) beside tt refl refl)
 command_made command_verbs.Rmult beside =
     λ parts os s. (let vs = wholes refl s in makes (bodies.Command (commands.Rmult vs.0)) beside tt refl vs.1)
-command_made verb beside = tt
+command_made command_verbs.Reset beside =
+    of_row (verbs.Command command_verbs.Reset) beside _ refl (λ u. makes (bodies.Command commands.Reset) beside tt refl refl)
+command_made command_verbs.Clear beside =
+    of_row (verbs.Command command_verbs.Clear) beside _ refl (λ u. makes (bodies.Command commands.Clear) beside tt refl refl)
 
 made : (verb : Verb) (beside : Auxiliary) (given : Bool) → MadeOf verb beside (forms_of verb beside given)
 made (verbs.Block verb) beside given = block_made verb beside (forms_of_block verb beside given) (block_values verb beside given)

@@ -1,14 +1,14 @@
 -- Operands by their forms: each list of parts spells operands or has a first fault, and what it spells, or its fault, is what
 -- reading gives.
-use Rattle.std.proofs.Common.{◌≡◌, ◌≢◌, ℕ, ◌+◌, ◌≤◌, ◌<◌, ◌==◌, true, false, List, [], ◌∷◌, ◌++◌, length, Option, Some, None, Ok, Err, refl, sym, ap, subst, ◌∙◌, ◌⊎◌, inl, inr, arith}
+use Rattle.std.proofs.Common.{◌≡◌, ◌≢◌, ℕ, ◌+◌, ◌≤◌, ◌<◌, ◌==◌, true, false, List, [], ◌∷◌, length, Option, Some, None, Ok, Err, refl, sym, ap, subst, ◌∙◌, ◌⊎◌, inl, inr, arith}
 use Rattle.std.specs.Prelude.{option_map, codes}
 use Rattle.std.specs.Str.{bytes_eq}
 use Rattle.std.proofs.lemmas.Bool.{cases_Bool, eqb-true}
 use Rattle.std.proofs.lemmas.Slice.Eq.{bytes_eq-Decides}
+use Rattle.gw_names.specs.declared.verb.Verb.{Verb}
 use Rattle.gw_names.specs.Names.{name_of}
 use Rattle.gw_expr.specs.declared.atom.Atom.TheVariants as atoms
-use Rattle.gw_expr.specs.declared.expr.Discipline.TheVariants as disciplines
-use Rattle.gw_expr.specs.Term.{Term, Defined, Fraction, Label, Order}
+use Rattle.gw_expr.specs.Term.{Term, Defined, Fraction, Label, Table}
 use Rattle.gw_expr.specs.declared.function.FunctionType.{FunctionType}
 use Rattle.gw_expr.specs.declared.function.FunctionType.TheVariants as types
 use Rattle.gw_lines.specs.declared.fault.LineFault.{LineFault}
@@ -22,11 +22,12 @@ use Rattle.gw_lines.specs.declared.operand.Operand.{Operand}
 use Rattle.gw_lines.specs.declared.operand.Operand.TheVariants as operands
 use Rattle.gw_lines.specs.Numbers.{number_of, from_one, fraction_of}
 use Rattle.gw_lines.specs.Forms.{is_listed}
-use Rattle.gw_lines.specs.Operands.{label_of, defined_of, order_of, or_points, points_in, as_value, operand_in, listed_here, each_of, missing_of, has_more, operands_of}
+use Rattle.gw_lines.specs.Fields.{misfits}
+use Rattle.gw_lines.specs.Operands.{label_of, defined_of, table_of, order_of, or_points, points_in, as_value, operand_in, listed_here, each_of, missing_of, has_more, operands_of}
 use Rattle.gw_lines.specs.Parts.{goes_on, part_of, others_of, is_missing}
-use Rattle.gw_lines.specs.Spelling.{Number, SpellsOperand, absent, a_value, a_constant, named_value, attribute_value, computed_value, a_whole, a_key, named_entity, numbered_entity, attribute_entity, computed_entity, a_fraction, a_label, a_definition, an_expression, continuous, discrete, first_in_first_out, last_in_first_out, unbounded, a_bound, SpellsAll, no_form, stands, unwritten}
-use Rattle.gw_lines.specs.Faulty.{Lawful, FirstBad, bad_here, bad_later, AllLawful, FirstMissing, missing_here, missing_later, FaultOfAll, bad_operand, extra_operand, missing_operand}
-use Rattle.gw_lines.proofs.Results.{some, some_is}
+use Rattle.gw_lines.specs.Spelling.{Number, SpellsOperand, absent, a_value, a_constant, named_value, attribute_value, computed_value, a_whole, a_key, named_entity, numbered_entity, attribute_entity, computed_entity, a_fraction, a_label, a_definition, a_table, an_expression, continuous, discrete, first_in_first_out, last_in_first_out, unbounded, a_bound, SpellsAll, no_form, stands, unwritten}
+use Rattle.gw_lines.specs.Faulty.{Lawful, FirstBad, bad_here, bad_later, AllLawful, operand_if, lawful_operands, FirstMissing, missing_here, missing_later, FaultOfAll, bad_operand, misfit, extra_operand, missing_operand}
+use Rattle.gw_lines.proofs.Results.{some, some_is, ok_is}
 use Rattle.gw_lines.proofs.Digits.{number_found, number_again, mapped, from_one_found, from_one_again}
 use Rattle.gw_lines.proofs.Values.{signed, called, of_attribute, no_name}
 use Rattle.gw_lines.proofs.Stated.{value_is, constant_is, entity_is, value_again, computed_value_again, constant_again, name_again, numbered_again, attribute_in_again, computed_entity_again, expression_is, expression_again}
@@ -88,6 +89,13 @@ defined_is text o e =
     subst (λ (x : Option Operand). SpellsOperand kinds.Defined text x) (ap (λ (t : Term). some (operands.Value t)) k.2 ∙ m.2)
     (a_definition text k.0 k.1)
 
+table_is : (text : List ℕ) (o : Option Operand) → as_value (table_of text) ≡ Some o → SpellsOperand kinds.Table text o
+table_is text o e =
+    let m = mapped (λ (t : Term). some (operands.Value t)) (table_of text) o e in
+    let k = mapped (λ (name : List ℕ). Table name) (name_of text) m.0 m.1 in
+    subst (λ (x : Option Operand). SpellsOperand kinds.Table text x) (ap (λ (t : Term). some (operands.Value t)) k.2 ∙ m.2)
+    (a_table text k.0 k.1)
+
 counted : (type : FunctionType) (bs : List ℕ) (o : Option Operand) → or_points (Some type) (from_one (number_of 1000 bs)) ≡ Some o
     → (n : ℕ) × Number 1000 bs n × (1 ≤ n) × (some (operands.Points type n) ≡ o)
 counted type bs o e =
@@ -126,6 +134,7 @@ operand_found kinds.Entity (b ∷ bs) o e = entity_is (b ∷ bs) o e
 operand_found kinds.Fraction (b ∷ bs) o e = fraction_is (b ∷ bs) o e
 operand_found kinds.Label (b ∷ bs) o e = label_is (b ∷ bs) o e
 operand_found kinds.Defined (b ∷ bs) o e = defined_is (b ∷ bs) o e
+operand_found kinds.Table (b ∷ bs) o e = table_is (b ∷ bs) o e
 operand_found kinds.Expression (b ∷ bs) o e = expression_is (b ∷ bs) o e
 operand_found kinds.Points (b ∷ bs) o e = points_are b bs o e
 operand_found kinds.Order (b ∷ bs) o e = order_is (b ∷ bs) o e
@@ -155,6 +164,11 @@ defined_in_again : (text name : List ℕ) → name_of text ≡ Some name
 defined_in_again [] name e = absurd (no_name name e)
 defined_in_again (b ∷ bs) name e = rw e refl
 
+table_in_again : (text name : List ℕ) → name_of text ≡ Some name
+    → operand_in kinds.Table text ≡ Some (Some (operands.Value (Table name)))
+table_in_again [] name e = absurd (no_name name e)
+table_in_again (b ∷ bs) name e = rw e refl
+
 -- a value in the place of `ALL`
 bound_again : (text : List ℕ) (o : Option Operand) → text ≢ codes "ALL" → operand_in kinds.Value text ≡ Some o
     → operand_in kinds.Bound text ≡ Some o
@@ -182,6 +196,7 @@ operand_again (computed_entity text e s) = computed_entity_again text e s
 operand_again (a_fraction text n f) = fraction_in_again text n (fraction_again f)
 operand_again (a_label text name e) = label_in_again text name e
 operand_again (a_definition text name e) = defined_in_again text name e
+operand_again (a_table text name e) = table_in_again text name e
 operand_again (an_expression text e s) = expression_again text e s
 operand_again (continuous digits n h from) = rw (number_again 1000 digits n h, from_one_again n from) refl
 operand_again (discrete digits n h from) = rw (number_again 1000 digits n h, from_one_again n from) refl
@@ -208,12 +223,12 @@ lawful_or_not : (kind : Kind) (text : List ℕ)
     → Lawful kind text ⊎ ((operand_in kind text ≡ None) × (Lawful kind text → ⊥))
 lawful_or_not kind text = lawful_by kind text (operand_in kind text) refl
 
-here_lawful : (form : Form) (n : ℕ) (parts : List (List ℕ)) → Lawful form.kind (part_of parts)
-    → (os : List (Option Operand)) × (listed_here form n (goes_on parts) (part_of parts) ≡ Ok os)
+here_lawful : (form : Form) (n : ℕ) (parts : List (List ℕ)) (l : Lawful form.kind (part_of parts))
+    → listed_here form n (goes_on parts) (part_of parts) ≡ Ok (operand_if (is_listed form.presence (goes_on parts)) l.0)
 here_lawful form n parts l =
     elim (cases_Bool (is_listed form.presence (goes_on parts))) [
-      | inl listed ↦ (l.0 ∷ [], rw (listed, operand_again l.1) refl)
-      | inr other ↦ ([], rw other refl)
+      | inl listed ↦ rw (listed, operand_again l.1) refl
+      | inr other ↦ rw other refl
     ]
 
 here_bad : (form : Form) (n : ℕ) (parts : List (List ℕ)) → (Lawful form.kind (part_of parts) → ⊥)
@@ -246,15 +261,13 @@ lawful_or_bad n (form ∷ forms) parts =
 each_bad : {n : ℕ} {forms : List Form} {parts : List (List ℕ)} {m : ℕ} → FirstBad n forms parts m
     → each_of n forms parts ≡ Err (faults.BadOperand m)
 each_bad (bad_here n form forms parts never) = rw (here_bad form n parts never) refl
-each_bad (bad_later n form forms parts m l b) = rw ((here_lawful form n parts l).1, each_bad b) refl
+each_bad (bad_later n form forms parts m l b) = rw (here_lawful form n parts l, each_bad b) refl
 
-each_lawful : (n : ℕ) (forms : List Form) (parts : List (List ℕ)) → AllLawful forms parts
-    → (os : List (Option Operand)) × (each_of n forms parts ≡ Ok os)
-each_lawful n [] parts all = ([], refl)
+each_lawful : (n : ℕ) (forms : List Form) (parts : List (List ℕ)) (all : AllLawful forms parts)
+    → each_of n forms parts ≡ Ok (lawful_operands forms parts all)
+each_lawful n [] parts all = refl
 each_lawful n (form ∷ forms) parts all =
-    let here = here_lawful form n parts all.0 in
-    let others = each_lawful (n + 1) forms (others_of parts) all.1 in
-    (here.0 ++ others.0, rw (here.1, others.1) refl)
+    rw (here_lawful form n parts all.0, each_lawful (n + 1) forms (others_of parts) all.1) refl
 
 -- no part is missing
 abbrev NoneMissing : List Form → List (List ℕ) → Type 0
@@ -345,32 +358,46 @@ none_more (unwritten form forms os w others) = none_more others
 
 -- ---- what reading gives
 
-pub operands_spelled : {forms : List Form} {parts : List (List ℕ)} {os : List (Option Operand)} → SpellsAll forms parts os
-    → operands_of forms parts ≡ Ok os
+pub operands_spelled : {forms : List Form} {parts : List (List ℕ)} {os : List (Option Operand)} (verb : Verb) → SpellsAll forms parts os
+    → misfits verb os ≡ false → operands_of verb forms parts ≡ Ok os
 unfolding operands_of
-operands_spelled s = rw (each_spelled 1 s, none_more s, none_missing 1 s) refl
+operands_spelled verb s fit = rw (each_spelled 1 s, fit, none_more s, none_missing 1 s) refl
 
-pub operands_faulted : {forms : List Form} {parts : List (List ℕ)} {f : LineFault} → FaultOfAll forms parts f
-    → operands_of forms parts ≡ Err f
+pub operands_faulted : {verb : Verb} {forms : List Form} {parts : List (List ℕ)} {f : LineFault} → FaultOfAll verb forms parts f
+    → operands_of verb forms parts ≡ Err f
 unfolding operands_of
-operands_faulted (bad_operand forms parts n b) = rw (each_bad b) refl
-operands_faulted (extra_operand forms parts all lt) = rw ((each_lawful 1 forms parts all).1, more_again forms parts lt) refl
-operands_faulted (missing_operand forms parts n all le m) =
-    rw ((each_lawful 1 forms parts all).1, no_more_again forms parts le, missing_again m) refl
+operands_faulted (bad_operand verb forms parts n b) = rw (each_bad b) refl
+operands_faulted (misfit verb forms parts all is) = rw (each_lawful 1 forms parts all, is) refl
+operands_faulted (extra_operand verb forms parts all fit lt) =
+    rw (each_lawful 1 forms parts all, fit, more_again forms parts lt) refl
+operands_faulted (missing_operand verb forms parts n all fit le m) =
+    rw (each_lawful 1 forms parts all, fit, no_more_again forms parts le, missing_again m) refl
+
+-- those that are spelled are the lawful ones
+same_operands : {forms : List Form} {parts : List (List ℕ)} {os : List (Option Operand)} (all : AllLawful forms parts)
+    → SpellsAll forms parts os → lawful_operands forms parts all ≡ os
+same_operands {forms} {parts} {os} all s =
+    ok_is (lawful_operands forms parts all) os (sym (each_lawful 1 forms parts all) ∙ each_spelled 1 s)
 
 -- each list of parts spells operands, or has a first fault
-pub operands_verdict : (forms : List Form) (parts : List (List ℕ))
-    → ((os : List (Option Operand)) × SpellsAll forms parts os) ⊎ ((f : LineFault) × FaultOfAll forms parts f)
-operands_verdict forms parts =
+pub operands_verdict : (verb : Verb) (forms : List Form) (parts : List (List ℕ))
+    → ((os : List (Option Operand)) × SpellsAll forms parts os × (misfits verb os ≡ false))
+    ⊎ ((f : LineFault) × FaultOfAll verb forms parts f)
+operands_verdict verb forms parts =
     elim (lawful_or_bad 1 forms parts) [
-      | inr b ↦ inr (faults.BadOperand b.0, bad_operand forms parts b.0 b.1)
-      | inl all ↦ elim (cases_Bool (has_more forms parts)) [
-        | inl more ↦
-            inr (faults.ExtraOperand (length forms + 1), extra_operand forms parts all (more_found forms parts more))
-        | inr end ↦ elim (missing_or_not 1 forms parts) [
-          | inr m ↦
-              inr (faults.MissingOperand m.0, missing_operand forms parts m.0 all (no_more_found forms parts end) m.1)
-          | inl none ↦ inl (lawful_spells forms parts all none end)
+      | inr b ↦ inr (faults.BadOperand b.0, bad_operand verb forms parts b.0 b.1)
+      | inl all ↦ elim (cases_Bool (misfits verb (lawful_operands forms parts all))) [
+        | inl is ↦ inr (faults.BadOperand 4, misfit verb forms parts all is)
+        | inr fit ↦ elim (cases_Bool (has_more forms parts)) [
+          | inl more ↦
+              inr (faults.ExtraOperand (length forms + 1), extra_operand verb forms parts all fit (more_found forms parts more))
+          | inr end ↦ elim (missing_or_not 1 forms parts) [
+            | inr m ↦
+                inr (faults.MissingOperand m.0, missing_operand verb forms parts m.0 all fit (no_more_found forms parts end) m.1)
+            | inl none ↦
+                let s = lawful_spells forms parts all none end in
+                inl (s.0, s.1, subst (λ (os : List (Option Operand)). misfits verb os ≡ false) (same_operands all s.1) fit)
+          ]
         ]
       ]
     ]

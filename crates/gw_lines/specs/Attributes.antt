@@ -14,8 +14,7 @@ use Rattle.gw_lines.specs.declared.attribute.Scope.{Scope}
 use Rattle.gw_lines.specs.declared.attribute.Scope.TheVariants as scopes
 use Rattle.gw_lines.specs.Numbers.{number_of, from_one}
 
--- what a class's attributes are of; a storage, a parameter, a VARIABLE and a FUNCTION are entities here, and those of
--- later versions are not read
+-- what a class's attributes are of; a storage, a table, a parameter, a VARIABLE and a FUNCTION are entities here
 abbrev pub scope_of : Class → Scope
 scope_of class.C1 = scopes.Alone
 scope_of class.Ac1 = scopes.Alone
@@ -40,7 +39,7 @@ scope_of class.X = scopes.Entity
 scope_of class.Ls = scopes.Entity
 scope_of class.Ch = scopes.Entity
 scope_of class.Cc = scopes.Entity
-scope_of class.Tc = scopes.Later
+scope_of class.Tc = scopes.Entity
 scope_of class.Rn = scopes.Stream
 scope_of class.V = scopes.Entity
 scope_of class.Fn = scopes.Entity
@@ -70,7 +69,6 @@ subject_of scopes.Alone text = own_in text
 subject_of scopes.Entity text = or_name (number_in 1000000000 text) text
 subject_of scopes.Block text = name_in text
 subject_of scopes.Stream text = number_in 7 text
-subject_of scopes.Later text = None
 
 -- the attribute of a class that a text is
 abbrev pub of_class : Class → List ℕ → Option Atom

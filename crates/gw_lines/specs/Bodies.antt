@@ -1,14 +1,14 @@
 -- The body of a statement as it is made of the operands that were read. (Manual; the operand table of the profile.)
-use Rattle.std.specs.Prelude.{ℕ, ℤ, zero, suc, Bool, List, [], ◌∷◌, Option, Some, None, Result, Ok, Err, if◌then◌else◌, map, option_and_then}
+use Rattle.std.specs.Prelude.{ℕ, ℤ, Bool, List, [], ◌∷◌, Option, Some, None, Result, Ok, Err, if◌then◌else◌, map}
 use Rattle.gw_names.specs.declared.verb.DefinitionVerb.{DefinitionVerb}
 use Rattle.gw_names.specs.declared.verb.DefinitionVerb.TheVariants as definition_verbs
 use Rattle.gw_names.specs.declared.verb.CommandVerb.{CommandVerb}
 use Rattle.gw_names.specs.declared.verb.CommandVerb.TheVariants as command_verbs
 use Rattle.gw_names.specs.declared.verb.Verb.{Verb}
 use Rattle.gw_names.specs.declared.verb.Verb.TheVariants as verbs
-use Rattle.gw_expr.specs.declared.atom.Atom.TheVariants as atoms
-use Rattle.gw_expr.specs.Term.{Term, Value}
+use Rattle.gw_expr.specs.Term.{Term}
 use Rattle.gw_expr.specs.declared.function.FunctionType.{FunctionType}
+use Rattle.gw_meaning.specs.Classes.{Scale}
 use Rattle.gw_meaning.specs.declared.statement.Definition.TheVariants as definitions
 use Rattle.gw_meaning.specs.declared.statement.Command.TheVariants as commands
 use Rattle.gw_meaning.specs.declared.auxiliary.Auxiliary.{Auxiliary}
@@ -18,45 +18,12 @@ use Rattle.gw_lines.specs.declared.fault.LineFault.{LineFault}
 use Rattle.gw_lines.specs.declared.fault.LineFault.TheVariants as faults
 use Rattle.gw_lines.specs.declared.form.Form.{Form}
 use Rattle.gw_lines.specs.declared.operand.Operand.{Operand}
-use Rattle.gw_lines.specs.declared.operand.Operand.TheVariants as operands
 use Rattle.gw_lines.specs.Reading.{◌>>=◌}
 use Rattle.gw_lines.specs.Forms.{forms_of, lacks}
+use Rattle.gw_lines.specs.Fields.{value_in, whole_in, points_in, constant_in, place, classes_in}
 use Rattle.gw_lines.specs.Operands.{operands_of}
 use Rattle.gw_lines.specs.Parts.{is_given, others_of}
 use Rattle.gw_lines.specs.Auxiliaries.{auxiliary_of, bare_parts}
-
--- an operand as a value
-abbrev pub value_in : Option Operand → Option Term
-value_in (Some (operands.Value term)) = Some term
-value_in operand = None
-
--- an operand as a whole number
-abbrev pub whole_in : Option Operand → Option ℕ
-whole_in (Some (operands.Whole n)) = Some n
-whole_in operand = None
-
--- an operand as a FUNCTION's type and its number of points
-abbrev pub points_in : Option Operand → Option (FunctionType × ℕ)
-points_in (Some (operands.Points kind count)) = Some (kind, count)
-points_in operand = None
-
--- an operand as a constant
-abbrev pub constant_of : Term → Option ℤ
-constant_of (Value (atoms.Constant z)) = Some z
-constant_of term = None
-
-abbrev pub constant_in : Option Operand → Option ℤ
-constant_in operand = option_and_then constant_of (value_in operand)
-
--- the operand that stands first
-abbrev pub first_of : List (Option Operand) → Option Operand
-first_of [] = None
-first_of (operand ∷ os) = operand
-
--- the operand at a place, from 0
-abbrev pub place : List (Option Operand) → ℕ → Option Operand
-place os zero = first_of os
-place os (suc n) = place (others_of os) n
 
 abbrev pub storage_with : Option ℕ → Option Body
 storage_with None = None
@@ -81,13 +48,19 @@ function_with (Some argument) (Some (kind, count)) =
       points = [];
     })))
 
+abbrev pub table_with : Option Term → Option Scale → Option Body
+table_with None classes = None
+table_with (Some argument) None = None
+table_with (Some argument) (Some classes) =
+    Some (bodies.Definition (definitions.Table (record { argument = argument; classes = classes })))
+
 -- the definition of a verb with these operands; no point of a FUNCTION was read
 abbrev pub definition_with : DefinitionVerb → List (Option Operand) → Option Body
 definition_with definition_verbs.Storage os = storage_with (whole_in (place os 0))
 definition_with definition_verbs.Equ os = equ_with (constant_in (place os 0))
 definition_with definition_verbs.Variable os = variable_with (value_in (place os 0))
 definition_with definition_verbs.Function os = function_with (value_in (place os 0)) (points_in (place os 1))
-definition_with verb os = None
+definition_with definition_verbs.Table os = table_with (value_in (place os 0)) (classes_in (others_of os))
 
 abbrev pub start_with : Option ℕ → Option Body
 start_with None = None
@@ -97,7 +70,8 @@ start_with (Some count) = Some (bodies.Command (commands.Start count))
 abbrev pub command_with : CommandVerb → List (Option Operand) → Option Body
 command_with command_verbs.Start os = start_with (whole_in (place os 0))
 command_with command_verbs.Rmult os = Some (bodies.Command (commands.Rmult (map whole_in os)))
-command_with verb os = None
+command_with command_verbs.Reset os = Some (bodies.Command commands.Reset)
+command_with command_verbs.Clear os = Some (bodies.Command commands.Clear)
 
 -- the statement of a verb with these operands, and with what stands beside them, which a block alone has
 unfoldable pub body_with : Verb → Auxiliary → List (Option Operand) → Option Body
@@ -117,7 +91,7 @@ enough lacks = if lacks then Err (faults.MissingOperand 1) else Ok tt
 -- the body that parts of these forms are
 unfoldable pub in_forms : Verb → Auxiliary → List Form → List (List ℕ) → Result Body LineFault
 in_forms verb auxiliary forms parts = do
-  os ← operands_of forms parts
+  os ← operands_of verb forms parts
   given ← enough (lacks verb os)
   or_unknown (body_with verb auxiliary os)
 

@@ -1,5 +1,5 @@
 -- The first fault of a line: a relation by cases, each of which says that all before the fault is right. (Our own.)
-use Rattle.std.specs.Prelude.{ℕ, ◌+◌, ◌<◌, ◌≤◌, ◌≡◌, ◌≢◌, ◌⊎◌, true, false, List, [], ◌∷◌, ◌++◌, length, Option, Some, None, IsSome}
+use Rattle.std.specs.Prelude.{ℕ, ◌+◌, ◌<◌, ◌≤◌, ◌≡◌, ◌≢◌, ◌⊎◌, true, false, List, [], ◌∷◌, ◌++◌, length, Bool, Option, Some, None, IsSome, if◌then◌else◌}
 use Rattle.gw_names.specs.declared.verb.Verb.{Verb}
 use Rattle.gw_names.specs.Words.{upper_of}
 use Rattle.gw_names.specs.Names.{name_of}
@@ -11,10 +11,11 @@ use Rattle.gw_lines.specs.declared.form.Form.{Form}
 use Rattle.gw_lines.specs.declared.operand.Operand.{Operand}
 use Rattle.gw_lines.specs.Reading.{OrMemory}
 use Rattle.gw_lines.specs.Classes.{are_plain}
-use Rattle.gw_lines.specs.Forms.{forms_of, lacks}
+use Rattle.gw_lines.specs.Forms.{forms_of, lacks, is_listed}
+use Rattle.gw_lines.specs.Fields.{misfits}
 use Rattle.gw_meaning.specs.declared.auxiliary.Auxiliary.{Auxiliary}
 use Rattle.gw_lines.specs.Auxiliaries.{takes_operator, auxiliary_of, bare_parts}
-use Rattle.gw_lines.specs.Parts.{part_of, is_given, others_of, is_missing}
+use Rattle.gw_lines.specs.Parts.{goes_on, part_of, is_given, others_of, is_missing}
 use Rattle.gw_lines.specs.Lines.{verb_in, is_command, needs_label, is_remark}
 use Rattle.gw_lines.specs.Spelling.{AreIn, Stops, SpellsOperand, SpellsAll, Head, Label, ArePlain, Cut, HasWords}
 
@@ -35,6 +36,15 @@ abbrev pub AllLawful : List Form → List (List ℕ) → Type 0
 AllLawful [] parts = Unit {0}
 AllLawful (form ∷ forms) parts = Lawful form.kind (part_of parts) × AllLawful forms (others_of parts)
 
+-- the operands that they spell, each where it is listed
+abbrev pub operand_if : Bool → Option Operand → List (Option Operand)
+operand_if listed o = if listed then o ∷ [] else []
+
+abbrev pub lawful_operands : (forms : List Form) (parts : List (List ℕ)) → AllLawful forms parts → List (Option Operand)
+lawful_operands [] parts all = []
+lawful_operands (form ∷ forms) parts all =
+    operand_if (is_listed form.presence (goes_on parts)) all.0.0 ++ lawful_operands forms (others_of parts) all.1
+
 -- the number of the first part that is required and empty, where the first of them has the number n
 pub data FirstMissing : ℕ → List Form → List (List ℕ) → ℕ → Type 0 where
   missing_here : (n : ℕ) (form : Form) (forms : List Form) (parts : List (List ℕ))
@@ -43,25 +53,28 @@ pub data FirstMissing : ℕ → List Form → List (List ℕ) → ℕ → Type 0
       → is_missing form (part_of parts) ≡ false → FirstMissing (n + 1) forms (others_of parts) m
       → FirstMissing n (form ∷ forms) parts m
 
--- the first fault of the parts of a list: one that is not lawful, one too many, one that is missing
-pub data FaultOfAll : List Form → List (List ℕ) → LineFault → Type 0 where
-  bad_operand : (forms : List Form) (parts : List (List ℕ)) (n : ℕ)
-      → FirstBad 1 forms parts n → FaultOfAll forms parts (faults.BadOperand n)
-  extra_operand : (forms : List Form) (parts : List (List ℕ))
-      → AllLawful forms parts → length forms < length parts
-      → FaultOfAll forms parts (faults.ExtraOperand (length forms + 1))
-  missing_operand : (forms : List Form) (parts : List (List ℕ)) (n : ℕ)
-      → AllLawful forms parts → length parts ≤ length forms → FirstMissing 1 forms parts n
-      → FaultOfAll forms parts (faults.MissingOperand n)
+-- the first fault of the parts of a verb's list: one that is not lawful, the fourth where it does not go with those
+-- before it, one too many, one that is missing
+pub data FaultOfAll : Verb → List Form → List (List ℕ) → LineFault → Type 0 where
+  bad_operand : (verb : Verb) (forms : List Form) (parts : List (List ℕ)) (n : ℕ)
+      → FirstBad 1 forms parts n → FaultOfAll verb forms parts (faults.BadOperand n)
+  misfit : (verb : Verb) (forms : List Form) (parts : List (List ℕ)) (all : AllLawful forms parts)
+      → misfits verb (lawful_operands forms parts all) ≡ true → FaultOfAll verb forms parts (faults.BadOperand 4)
+  extra_operand : (verb : Verb) (forms : List Form) (parts : List (List ℕ)) (all : AllLawful forms parts)
+      → misfits verb (lawful_operands forms parts all) ≡ false → length forms < length parts
+      → FaultOfAll verb forms parts (faults.ExtraOperand (length forms + 1))
+  missing_operand : (verb : Verb) (forms : List Form) (parts : List (List ℕ)) (n : ℕ) (all : AllLawful forms parts)
+      → misfits verb (lawful_operands forms parts all) ≡ false → length parts ≤ length forms
+      → FirstMissing 1 forms parts n → FaultOfAll verb forms parts (faults.MissingOperand n)
 
 -- the first fault of a verb's operands: that of their list, or they lack one though none of them is required
 pub data OperandFault : Verb → Auxiliary → List (List ℕ) → LineFault → Type 0 where
   in_list : (verb : Verb) (beside : Auxiliary) (forms : List Form) (parts : List (List ℕ)) (f : LineFault)
-      → forms_of verb beside (is_given parts) ≡ Some forms → FaultOfAll forms parts f
+      → forms_of verb beside (is_given parts) ≡ Some forms → FaultOfAll verb forms parts f
       → OperandFault verb beside parts f
   lacking : (verb : Verb) (beside : Auxiliary) (forms : List Form) (parts : List (List ℕ)) (os : List (Option Operand))
-      → forms_of verb beside (is_given parts) ≡ Some forms → SpellsAll forms parts os → lacks verb os ≡ true
-      → OperandFault verb beside parts (faults.MissingOperand 1)
+      → forms_of verb beside (is_given parts) ≡ Some forms → SpellsAll forms parts os → misfits verb os ≡ false
+      → lacks verb os ≡ true → OperandFault verb beside parts (faults.MissingOperand 1)
 
 -- the first fault of what is kept behind a verb: that of its operator, which is operand 0, then that the verb is still
 -- to come, then that of its operands

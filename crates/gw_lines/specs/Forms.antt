@@ -48,9 +48,13 @@ an_expression = record { kind = kinds.Expression; presence = presences.Required 
 abbrev pub some_points : Form
 some_points = record { kind = kinds.Points; presence = presences.Required }
 
--- how many terminations a run takes, or how many units a storage has
+-- how many terminations a run takes, how many units a storage has, or how wide a class of a table is
 abbrev pub a_count : Form
 a_count = record { kind = kinds.Whole 1000000000; presence = presences.Required }
+
+-- how many classes a table has
+abbrev pub some_classes : Form
+some_classes = record { kind = kinds.Whole 1000; presence = presences.Required }
 
 -- `NP`, or nothing
 abbrev pub a_quiet : Form
@@ -80,9 +84,13 @@ a_label = record { kind = kinds.Label; presence = presences.Required }
 abbrev pub another_label : Form
 another_label = record { kind = kinds.Label; presence = presences.Optional }
 
--- the name of a definition
+-- the name of a storage's definition
 abbrev pub a_definition : Form
 a_definition = record { kind = kinds.Defined; presence = presences.Required }
+
+-- the name of a table's definition
+abbrev pub a_table : Form
+a_table = record { kind = kinds.Table; presence = presences.Required }
 
 -- a queue discipline
 abbrev pub an_order : Form
@@ -133,19 +141,20 @@ forms_of_block blocks.Savevalue beside given = Some (an_entity ∷ one_value ∷
 forms_of_block blocks.Split beside given = Some (one_value ∷ another_label ∷ [])
 forms_of_block blocks.Link beside given = Some (an_entity ∷ an_order ∷ [])
 forms_of_block blocks.Unlink beside given = Some (an_entity ∷ a_label ∷ a_bound ∷ [])
-forms_of_block verb beside given = None
+forms_of_block blocks.Tabulate beside given = Some (a_table ∷ [])
 
 abbrev pub forms_of_definition : DefinitionVerb → Option (List Form)
 forms_of_definition definition_verbs.Storage = Some (a_count ∷ [])
 forms_of_definition definition_verbs.Equ = Some (a_constant ∷ [])
 forms_of_definition definition_verbs.Variable = Some (an_expression ∷ [])
 forms_of_definition definition_verbs.Function = Some (one_value ∷ some_points ∷ [])
-forms_of_definition verb = None
+forms_of_definition definition_verbs.Table = Some (one_value ∷ a_constant ∷ a_count ∷ some_classes ∷ [])
 
 abbrev pub forms_of_command : CommandVerb → Option (List Form)
 forms_of_command command_verbs.Start = Some (a_count ∷ a_quiet ∷ [])
 forms_of_command command_verbs.Rmult = Some (a_seed ∷ a_seed ∷ a_seed ∷ a_seed ∷ a_seed ∷ a_seed ∷ a_seed ∷ [])
-forms_of_command verb = None
+forms_of_command command_verbs.Reset = Some []
+forms_of_command command_verbs.Clear = Some []
 
 abbrev pub forms_of : Verb → Auxiliary → Bool → Option (List Form)
 forms_of (verbs.Block verb) beside given = forms_of_block verb beside given
@@ -165,11 +174,16 @@ fields_of_definition (definitions.Equ z) = Some (operands.Value (Value (atoms.Co
 fields_of_definition (definitions.Variable expression) = Some (operands.Value expression) ∷ []
 fields_of_definition (definitions.Function function) =
     Some (operands.Value function.argument) ∷ Some (operands.Points function.kind function.count) ∷ []
+fields_of_definition (definitions.Table table) =
+    Some (operands.Value table.argument) ∷ Some (operands.Value (Value (atoms.Constant table.classes.first)))
+    ∷ Some (operands.Whole table.classes.width) ∷ Some (operands.Whole table.classes.count) ∷ []
 
 -- the operands that a command has: `NP` leaves no trace
 abbrev pub fields_of_command : Command → List (Option Operand)
 fields_of_command (commands.Start count) = Some (operands.Whole count) ∷ None ∷ []
 fields_of_command (commands.Rmult values) = map whole values
+fields_of_command commands.Reset = []
+fields_of_command commands.Clear = []
 
 -- the operands that a statement has
 abbrev pub fields_of : Body → List (Option Operand)

@@ -4,6 +4,7 @@ pub mod Classes
 pub mod Numbers
 pub mod Forms
 pub mod Parts
+pub mod Fields
 pub mod Auxiliaries
 pub mod Attributes
 pub mod Atoms

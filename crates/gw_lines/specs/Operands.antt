@@ -2,11 +2,12 @@
 -- of the profile.)
 use Rattle.std.specs.Prelude.{ℕ, pos, ◌+◌, ◌==◌, Bool, List, [], ◌∷◌, ◌++◌, length, Option, Some, None, Result, Ok, Err, option_map, if◌then◌else◌, codes}
 use Rattle.std.specs.Str.{bytes_eq}
+use Rattle.gw_names.specs.declared.verb.Verb.{Verb}
 use Rattle.gw_names.specs.Names.{name_of}
 use Rattle.gw_expr.specs.declared.atom.Atom.{Atom}
 use Rattle.gw_expr.specs.declared.atom.Atom.TheVariants as atoms
 use Rattle.gw_expr.specs.declared.expr.Discipline.TheVariants as disciplines
-use Rattle.gw_expr.specs.Term.{Term, Value, Defined, Fraction, Label, Named, Order}
+use Rattle.gw_expr.specs.Term.{Term, Value, Defined, Fraction, Label, Named, Order, Table}
 use Rattle.gw_expr.specs.declared.function.FunctionType.{FunctionType}
 use Rattle.gw_expr.specs.declared.function.FunctionType.TheVariants as types
 use Rattle.gw_lines.specs.declared.fault.LineFault.{LineFault}
@@ -22,6 +23,7 @@ use Rattle.gw_lines.specs.Attributes.{or_atom, attribute_of}
 use Rattle.gw_lines.specs.Atoms.{constant_of, atom_of}
 use Rattle.gw_lines.specs.Expressions.{bare_of, computed_of}
 use Rattle.gw_lines.specs.Forms.{is_listed}
+use Rattle.gw_lines.specs.Fields.{misfits}
 use Rattle.gw_lines.specs.Parts.{split, goes_on, part_of, others_of, is_missing}
 
 -- ---- one operand
@@ -55,9 +57,12 @@ entity_of text = or_number (name_of text) text
 abbrev pub label_of : List ℕ → Option Term
 label_of text = option_map (λ name. Label name) (name_of text)
 
--- the name of a definition that a text is
+-- the name of a storage's or of a table's definition that a text is
 abbrev pub defined_of : List ℕ → Option Term
 defined_of text = option_map (λ name. Defined name) (name_of text)
+
+abbrev pub table_of : List ℕ → Option Term
+table_of text = option_map (λ name. Table name) (name_of text)
 
 -- the queue discipline that a text is
 abbrev pub order_of : List ℕ → Option Term
@@ -92,6 +97,7 @@ given_in kinds.Entity text = as_value (entity_of text)
 given_in kinds.Fraction text = as_value (option_map (λ n. Fraction n) (fraction_of 1000000 text))
 given_in kinds.Label text = as_value (label_of text)
 given_in kinds.Defined text = as_value (defined_of text)
+given_in kinds.Table text = as_value (table_of text)
 given_in kinds.Expression text = as_value (bare_of text)
 given_in kinds.Points text = points_in text
 given_in kinds.Order text = as_value (order_of text)
@@ -147,6 +153,10 @@ abbrev pub has_more : List Form → List (List ℕ) → Bool
 has_more [] parts = goes_on parts
 has_more (form ∷ forms) parts = has_more forms (others_of parts)
 
+-- operands, where the fourth goes with those before it
+abbrev pub fitting : Bool → Result (Unit {0}) LineFault
+fitting misfits = if misfits then Err (faults.BadOperand 4) else Ok tt
+
 -- operands, where none is one too many
 abbrev pub ended : Bool → ℕ → Result (Unit {0}) LineFault
 ended has_more n = if has_more then Err (faults.ExtraOperand n) else Ok tt
@@ -156,10 +166,11 @@ abbrev pub complete : Option ℕ → Result (Unit {0}) LineFault
 complete None = Ok tt
 complete (Some n) = Err (faults.MissingOperand n)
 
--- the operands that parts are
-unfoldable pub operands_of : List Form → List (List ℕ) → Result (List (Option Operand)) LineFault
-operands_of forms parts = do
+-- the operands of a verb that parts are
+unfoldable pub operands_of : Verb → List Form → List (List ℕ) → Result (List (Option Operand)) LineFault
+operands_of verb forms parts = do
   os ← each_of 1 forms parts
+  fit ← fitting (misfits verb os)
   end ← ended (has_more forms parts) (length forms + 1)
   given ← complete (missing_of 1 forms parts)
   Ok os

@@ -33,6 +33,7 @@ use Rattle.gw_lines.specs.declared.operand.Operand.TheVariants as operands
 use Rattle.gw_lines.specs.Classes.{is_in, is_blank, are_plain}
 use Rattle.gw_lines.specs.Attributes.{scope_of}
 use Rattle.gw_lines.specs.Forms.{forms_of, fields_of, points_of, lacks, is_listed}
+use Rattle.gw_lines.specs.Fields.{misfits}
 use Rattle.gw_lines.specs.Parts.{goes_on, part_of, is_given, others_of, is_missing}
 use Rattle.gw_lines.specs.Auxiliaries.{takes_operator, auxiliary_of, bare_parts, HasAuxiliary}
 use Rattle.gw_lines.specs.Listed.{behind_text}
@@ -161,6 +162,8 @@ pub data SpellsOperand : Kind → List ℕ → Option Operand → Type 0 where
       → SpellsOperand kinds.Label text (Some (operands.Value (terms.Label name)))
   a_definition : (text name : List ℕ) → name_of text ≡ Some name
       → SpellsOperand kinds.Defined text (Some (operands.Value (terms.Defined name)))
+  a_table : (text name : List ℕ) → name_of text ≡ Some name
+      → SpellsOperand kinds.Table text (Some (operands.Value (terms.Table name)))
   an_expression : (text : List ℕ) (e : Expression) → SpellsExpression Sum 32 text e
       → SpellsOperand kinds.Expression text (Some (operands.Value (terms.Computed (postfix e))))
   continuous : (digits : List ℕ) (n : ℕ) → Number 1000 digits n → 1 ≤ n
@@ -190,6 +193,7 @@ pub record Says (verb : Verb) (beside : Auxiliary) (parts : List (List ℕ)) (bo
   pub of_verb : verb_of_body body ≡ verb
   pub has_auxiliary : HasAuxiliary body beside
   pub operands : SpellsAll forms parts (fields_of body)
+  pub fit : misfits verb (fields_of body) ≡ false
   pub enough : lacks verb (fields_of body) ≡ false
   pub pointless : points_of body ≡ []
 

@@ -20,8 +20,6 @@ pub enum Scope {
     Block,
     /// A random stream, by its number.
     Stream,
-    /// What a later version reads.
-    Later,
 }
 
 /// The attribute that a text in upper case is.
@@ -80,10 +78,10 @@ fn scope_of(class: Class) -> Scope
         | Class::Ls
         | Class::Ch
         | Class::Cc
+        | Class::Tc
         | Class::V => Scope::Entity,
         Class::N | Class::W => Scope::Block,
         Class::Rn => Scope::Stream,
-        Class::Tc => Scope::Later,
     }
 }
 
@@ -99,7 +97,6 @@ fn subject(alloc: Global, scope: Scope, text: &[u8]) -> Result<Option<Subject>, 
         },
         Scope::Block => named(alloc, text),
         Scope::Stream => Ok(numbered(STREAMS, text)),
-        Scope::Later => Ok(None),
     }
 }
 

@@ -1,20 +1,20 @@
 ghost use Rattle.std.specs.Prelude.{◌≡◌, ◌≤◌, length, map, IfOk};
-ghost use Rattle.std.specs.Option.{option_copied};
 ghost use Rattle.gw_lines.specs.Reading.{Gives};
 ghost use Rattle.gw_lines.specs.Forms.{forms_of};
-ghost use Rattle.gw_lines.specs.Parts.{is_given, parts_of, others_of};
-ghost use Rattle.gw_lines.specs.Bodies.{body_of, by_forms, in_forms, body_with, definition_with, command_with, function_with, first_of, value_in, whole_in, points_in, constant_in, constant_of};
+ghost use Rattle.gw_lines.specs.Parts.{is_given, parts_of};
+ghost use Rattle.gw_lines.specs.Fields.{whole_in};
+ghost use Rattle.gw_lines.specs.Bodies.{body_of, by_forms, in_forms, body_with, definition_with, command_with, function_with, table_with};
 
 use crate::auxiliary::{auxiliary_of, takes_operator, without_sign};
 use crate::class::word;
 use crate::fault::LineFault;
+use crate::field::{classes_in, constant_in, first, points_in, take_first, value_in, whole_in};
 use crate::form::{Form, forms_of, lacks};
 use crate::operand::Operand;
 use crate::operands::{is_given, read_operands};
-use gw_expr::{Atom, Expr, Function, FunctionType, Node, Row};
-use gw_meaning::{Auxiliary, Block, Body, Command, Definition};
+use gw_expr::{Expr, Function, FunctionType, Row};
+use gw_meaning::{Auxiliary, Block, Body, Classes, Command, Definition, Table};
 use gw_names::{CommandVerb, DefinitionVerb, Verb};
-use gw_nums::Val;
 use std::alloc::{AllocError, Global};
 
 /// The body that a verb's text spells: its operator and its operand list, in upper case and without skipped blanks.
@@ -57,7 +57,7 @@ fn in_forms(
     requires { length forms.now ≤ 7 }
     ensures { Gives (λ b. b) result (in_forms verb auxiliary forms.now (parts_of text.now)) }
 {
-    let operands = read_operands(alloc, forms, text)?;
+    let operands = read_operands(alloc, verb, forms, text)?;
     if lacks(verb, &operands) {
         return Err(LineFault::MissingOperand(1));
     }
@@ -116,7 +116,10 @@ fn definition_with(
             let argument = value_in(take_first(&mut operands));
             function_with(alloc, argument, points_in(first(&operands)))
         }
-        _ => None,
+        DefinitionVerb::Table => {
+            let argument = value_in(take_first(&mut operands));
+            table_with(argument, classes_in(&operands))
+        }
     }
 }
 
@@ -135,6 +138,14 @@ fn function_with(
         count,
         points: Row::from_vec(Vec::new(alloc)),
     })))
+}
+
+// The TABLE with this argument and these classes.
+fn table_with(argument: Option<Expr>, classes: Option<Classes>) -> Option<Body>
+    ensures { result ≡ table_with argument classes }
+{
+    let (argument, classes) = argument.zip(classes)?;
+    Some(Body::Definition(Definition::Table(Table { argument, classes })))
 }
 
 // The command of a verb with these operands, if they have its forms.
@@ -158,7 +169,8 @@ fn command_with(
                 values: Row::from_vec(values),
             })))
         }
-        _ => Ok(None),
+        CommandVerb::Reset => Ok(Some(Body::Command(Command::Reset))),
+        CommandVerb::Clear => Ok(Some(Body::Command(Command::Clear))),
     }
 }
 
@@ -170,76 +182,4 @@ fn stream_values(
     ensures { IfOk result (λ vs. vs.items ≡ map whole_in operands.now) }
 {
     operands.iter().map(|o| whole_in(o.as_ref())).collect(alloc)
-}
-
-// Takes the first operand.
-fn take_first(operands: &mut Vec<Option<Operand>>) -> Option<Operand>
-    ensures first { result ≡ first_of operands.old.items }
-    ensures others { operands.new.items ≡ others_of operands.old.items }
-{
-    if operands.is_empty() {
-        None
-    } else {
-        operands.remove(0)
-    }
-}
-
-// The first operand.
-fn first(operands: &[Option<Operand>]) -> Option<&Operand>
-    ensures { option_copied result ≡ first_of operands.now }
-{
-    match operands {
-        [] => None,
-        [first, ..] => first.as_ref(),
-    }
-}
-
-// An operand as a value.
-fn value_in(operand: Option<Operand>) -> Option<Expr>
-    ensures { result ≡ value_in operand }
-{
-    match operand {
-        Some(Operand::Value(value)) => Some(value),
-        Some(Operand::Whole(_) | Operand::Points(_, _)) | None => None,
-    }
-}
-
-// An operand as a whole number.
-fn whole_in(operand: Option<&Operand>) -> Option<u32>
-    ensures { result ≡ whole_in (option_copied operand.entry) }
-{
-    match operand {
-        Some(Operand::Whole(n)) => Some(*n),
-        Some(Operand::Value(_) | Operand::Points(_, _)) | None => None,
-    }
-}
-
-// An operand as a FUNCTION's type and its number of points.
-fn points_in(operand: Option<&Operand>) -> Option<(FunctionType, u32)>
-    ensures { result ≡ points_in (option_copied operand.entry) }
-{
-    match operand {
-        Some(Operand::Points(kind, count)) => Some((*kind, *count)),
-        Some(Operand::Value(_) | Operand::Whole(_)) | None => None,
-    }
-}
-
-// An operand as a constant.
-fn constant_in(operand: Option<&Operand>) -> Option<Val>
-    ensures { result ≡ constant_in (option_copied operand.entry) }
-{
-    match operand {
-        Some(Operand::Value(value)) => constant_of(value),
-        Some(Operand::Whole(_) | Operand::Points(_, _)) | None => None,
-    }
-}
-
-fn constant_of(value: &Expr) -> Option<Val>
-    ensures { result ≡ constant_of value.now }
-{
-    match value.node() {
-        Node::Value(Atom::Constant(value)) => Some(*value),
-        Node::Value(_) | Node::Computed(_) | Node::Named(_) => None,
-        Node::Label(_) | Node::Fraction(_) | Node::Defined(_) | Node::Order(_) => None,
-    }
 }

@@ -23,8 +23,10 @@ pub enum Kind {
     Fraction,
     /// A block's label.
     Label,
-    /// The name of a definition.
+    /// The name of a storage's definition.
     Defined,
+    /// The name of a table's definition.
+    Table,
     /// An expression, without parentheses around the whole.
     Expression,
     /// A FUNCTION's type and its number of points: `C` or `D`, and a whole number from 1 to 1,000.
@@ -85,7 +87,7 @@ fn forms_of_block(verb: BlockVerb, beside: Auxiliary, given: bool) -> Option<&'s
         BlockVerb::Split => Some(&[ONE_VALUE, ANOTHER_LABEL]),
         BlockVerb::Link => Some(&[ENTITY, ORDER]),
         BlockVerb::Unlink => Some(&[ENTITY, LABEL, BOUND]),
-        _ => None,
+        BlockVerb::Tabulate => Some(&[TABLE]),
     }
 }
 
@@ -134,7 +136,7 @@ pub fn forms_of_definition(verb: DefinitionVerb) -> Option<&'static [Form]>
         DefinitionVerb::Equ => Some(&[CONSTANT]),
         DefinitionVerb::Variable => Some(&[EXPRESSION]),
         DefinitionVerb::Function => Some(&[ONE_VALUE, POINTS]),
-        _ => None,
+        DefinitionVerb::Table => Some(&[ONE_VALUE, CONSTANT, COUNT, CLASSES]),
     }
 }
 
@@ -145,7 +147,7 @@ fn forms_of_command(verb: CommandVerb) -> Option<&'static [Form]>
     match verb {
         CommandVerb::Start => Some(&[COUNT, QUIET]),
         CommandVerb::Rmult => Some(&[SEED, SEED, SEED, SEED, SEED, SEED, SEED]),
-        _ => None,
+        CommandVerb::Reset | CommandVerb::Clear => Some(&[]),
     }
 }
 
@@ -186,6 +188,11 @@ const COUNT: Form = Form {
     presence: Presence::Required,
 };
 
+const CLASSES: Form = Form {
+    kind: Kind::Whole { most: 1_000 },
+    presence: Presence::Required,
+};
+
 const QUIET: Form = Form {
     kind: Kind::Quiet,
     presence: Presence::Optional,
@@ -220,6 +227,11 @@ const ANOTHER_LABEL: Form = Form {
 
 const DEFINED: Form = Form {
     kind: Kind::Defined,
+    presence: Presence::Required,
+};
+
+const TABLE: Form = Form {
+    kind: Kind::Table,
     presence: Presence::Required,
 };
 

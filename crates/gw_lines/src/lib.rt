@@ -7,7 +7,7 @@
 //! are skipped (listed). In front of it stands the operator of a verb that takes one, and behind its first operand a
 //! sign (auxiliary). What the operands of a verb may be is a list of forms (form). The list is split once, each part is
 //! read by its form (operands, operand, number, atom, attribute, expression), and the statement is made of what was
-//! read (body). What is read is a [`Statement`], which [`Statement::put_text`] lists.
+//! read (field, body). What is read is a [`Statement`], which [`Statement::put_text`] lists.
 //!
 //! All goes by the forms of a verb's operands and by its operators. Where a further verb or kind of operand goes:
 //! docs/contributing.md.
@@ -21,6 +21,7 @@ mod class;
 mod edit;
 mod expression;
 mod fault;
+mod field;
 mod form;
 mod laws;
 mod line;

@@ -1,5 +1,5 @@
 ghost use Rattle.std.specs.Prelude.{◌≡◌, IfOk};
-ghost use Rattle.gw_lines.specs.Operands.{operand_in, given_in, as_value, atomic, given_value, or_term, entity_of, numbered, label_of, defined_of, type_of, points_in, order_of};
+ghost use Rattle.gw_lines.specs.Operands.{operand_in, given_in, as_value, atomic, given_value, or_term, entity_of, numbered, label_of, defined_of, table_of, type_of, points_in, order_of};
 ghost use Rattle.gw_lines.specs.Expressions.{computed_of};
 
 use crate::atom::{atom_of, constant, or_attribute};
@@ -61,6 +61,7 @@ fn given(alloc: Global, kind: Kind, text: &[u8]) -> Result<Option<Option<Operand
         },
         Kind::Label => Ok(as_value(label(alloc, text)?)),
         Kind::Defined => Ok(as_value(defined(alloc, text)?)),
+        Kind::Table => Ok(as_value(table(alloc, text)?)),
         Kind::Expression => Ok(as_value(read_bare(alloc, text)?)),
         Kind::Points => Ok(points_in(text)),
         Kind::Order => Ok(as_value(order(text))),
@@ -174,7 +175,17 @@ fn label(alloc: Global, text: &[u8]) -> Result<Option<Expr>, AllocError>
     }
 }
 
-// The name of a definition that a text is.
+// The name of a table's definition that a text is.
+fn table(alloc: Global, text: &[u8]) -> Result<Option<Expr>, AllocError>
+    ensures { IfOk result (λ o. o ≡ table_of text.now) }
+{
+    match Name::read(alloc, text)? {
+        Some(name) => Ok(Some(Expr::table(name))),
+        None => Ok(None),
+    }
+}
+
+// The name of a storage's definition that a text is.
 fn defined(alloc: Global, text: &[u8]) -> Result<Option<Expr>, AllocError>
     ensures { IfOk result (λ o. o ≡ defined_of text.now) }
 {

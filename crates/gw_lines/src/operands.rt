@@ -5,22 +5,29 @@ ghost use Rattle.gw_lines.specs.Parts.{parts_of, goes_on, part_of, is_given, oth
 
 use crate::class::{Class, piece};
 use crate::fault::LineFault;
+use crate::field::misfits;
 use crate::form::Form;
 use crate::operand::{Operand, operand_in};
+use gw_names::Verb;
 use std::alloc::Global;
 
-/// The operands that a list spells, by their forms: `None` where one is absent. The first operand that is not lawful
-/// is the fault, then one that is beyond the forms, then the first that is required and absent.
+/// The operands of a verb that a list spells, by their forms: `None` where one is absent. The first operand that is not
+/// lawful is the fault, then the fourth where it does not go with those before it, then one that is beyond the forms,
+/// then the first that is required and absent.
 #[tactic(auto, unfolding(crate::specs::Operands::operands_of))]
 pub fn read_operands(
     alloc: Global,
+    verb: Verb,
     forms: &[Form],
     text: &[u8],
 ) -> Result<Vec<Option<Operand>>, LineFault>
     requires { length forms.now ≤ 7 }
-    ensures { Gives (λ v. v.items) result (operands_of forms.now (parts_of text.now)) }
+    ensures { Gives (λ v. v.items) result (operands_of verb forms.now (parts_of text.now)) }
 {
     let list = read_each(alloc, forms, text)?;
+    if misfits(verb, &list.operands) {
+        return Err(LineFault::BadOperand(4));
+    }
     if list.has_more {
         return Err(LineFault::ExtraOperand(list.forms + 1));
     }

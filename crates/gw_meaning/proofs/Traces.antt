@@ -28,7 +28,7 @@ use Rattle.gw_meaning.specs.Listing.{Listing, label_at, number_at}
 use Rattle.gw_meaning.specs.Watching.{with_all_watched}
 use Rattle.gw_meaning.specs.Machine.{Machine}
 use Rattle.gw_meaning.specs.Questions.{result_of, items_of}
-use Rattle.gw_meaning.specs.Evaluation.{Eval, gives, asks, ◌~>◌, value_prog, value_there, entity_prog, value_traced, entity_traced, stops_if, numbered, named, subject_prog, storage_prog, left_prog, counted, block_count, block_value, entity_value, storage_value, attribute_prog, reply_prog, evaluated, entity_watched, storage_watched, counts_of, counts_watched, watched_prog, watched_by, traced}
+use Rattle.gw_meaning.specs.Evaluation.{Eval, gives, asks, ◌~>◌, value_prog, value_there, entity_prog, value_traced, entity_traced, stops_if, numbered, named, subject_prog, defined_prog, left_prog, counted, block_count, block_value, entity_value, storage_value, table_value, attribute_prog, reply_prog, evaluated, entity_watched, defined_watched, counts_of, counts_watched, watched_prog, watched_by, traced}
 use Rattle.gw_meaning.proofs.Programs.{bind_gives, bind_ends}
 
 -- the result without what was read
@@ -120,11 +120,12 @@ module _ (t : Listing) (seed : ℕ) where
               rw (same, all) (or_same (asks_some p (subject_prog subject) streams)));
         }
 
-  storage_watches : {B : Type 0} (r : Eval B) (subject : Subject) (streams : List Stream) → Watches (storage_watched subject) r streams
-  storage_watches r subjects.Own streams = nothing_watched r streams
-  storage_watches r (subjects.Number n) streams = nothing_watched r streams
-  storage_watches r (subjects.Name name) streams = record {
-    comes = inl (watched.Entity kinds.Storage (keys.Defined name) ∷ [], refl);
+  defined_watches : {B : Type 0} (kind : EntityKind) (r : Eval B) (subject : Subject) (streams : List Stream) →
+      Watches (defined_watched kind subject) r streams
+  defined_watches kind r subjects.Own streams = nothing_watched r streams
+  defined_watches kind r (subjects.Number n) streams = nothing_watched r streams
+  defined_watches kind r (subjects.Name name) streams = record {
+    comes = inl (watched.Entity kind (keys.Defined name) ∷ [], refl);
     no_more = λ p. refl;
   }
 
@@ -153,10 +154,11 @@ module _ (t : Listing) (seed : ℕ) where
     attribute_watches class.Ls subject streams = entity_watches kinds.Switch (entity_value s class.Ls) subject streams
     attribute_watches class.Ch subject streams = entity_watches kinds.UserChain (entity_value s class.Ch) subject streams
     attribute_watches class.Cc subject streams = entity_watches kinds.UserChain (entity_value s class.Cc) subject streams
-    attribute_watches class.S subject streams = storage_watches (storage_prog subject (λ key. storage_value s class.S key)) subject streams
-    attribute_watches class.R subject streams = storage_watches (left_prog s subject) subject streams
-    attribute_watches class.Sc subject streams = storage_watches (storage_prog subject (λ key. storage_value s class.Sc key)) subject streams
-    attribute_watches class.Sm subject streams = storage_watches (storage_prog subject (λ key. storage_value s class.Sm key)) subject streams
+    attribute_watches class.S subject streams = defined_watches kinds.Storage (defined_prog subject (λ key. storage_value s class.S key)) subject streams
+    attribute_watches class.R subject streams = defined_watches kinds.Storage (left_prog s subject) subject streams
+    attribute_watches class.Sc subject streams = defined_watches kinds.Storage (defined_prog subject (λ key. storage_value s class.Sc key)) subject streams
+    attribute_watches class.Sm subject streams = defined_watches kinds.Storage (defined_prog subject (λ key. storage_value s class.Sm key)) subject streams
+    attribute_watches class.Tc subject streams = defined_watches kinds.Table (defined_prog subject (λ key. table_value s key)) subject streams
     attribute_watches class.N subject streams = counts_watches (λ id. block_value s class.N id) subject streams
     attribute_watches class.W subject streams = counts_watches (λ id. block_value s class.W id) subject streams
     attribute_watches class subject streams = nothing_watched _ streams

@@ -1,7 +1,7 @@
--- What a move does to a state. (Manual: the chains, the counts of blocks, copies and user chains. Our own: that an ADVANCE
--- of 0 leaves the transaction active, that a time is fixed when the transaction comes onto the future chain, that who
--- waited for a facility or a storage enters its block in the step that gives it back, that copies are numbered in the
--- order in which they line up, and that waiters wake when all else is done.)
+-- What a move does to a state. (Manual: the chains, the counts of blocks, copies, user chains, RESET and CLEAR. Our
+-- own: that an ADVANCE of 0 leaves the transaction active, that a time is fixed when the transaction comes onto the
+-- future chain, that who waited for a facility or a storage enters its block in the step that gives it back, that
+-- copies are numbered in the order in which they line up, and that waiters wake when all else is done.)
 use Rattle.std.specs.Prelude.{ℕ, zero, suc, ℤ, ◌-◌, Bool, true, not, ◌==◌, List, [], ◌∷◌, ◌++◌, Option, Some, None, if◌then◌else◌, filter, length, nat_lt}
 use Rattle.std.specs.List.{list_any}
 use Rattle.gw_nums.specs.Range.{is_below}
@@ -30,9 +30,9 @@ use Rattle.gw_meaning.specs.declared.moves.Move.TheVariants as moves
 use Rattle.gw_meaning.specs.declared.watched.EntityKind.TheVariants as kinds
 use Rattle.gw_meaning.specs.declared.watched.Watched.{Watched}
 use Rattle.gw_meaning.specs.declared.watched.Watched.TheVariants as watched
-use Rattle.gw_meaning.specs.Entities.{touched, later}
+use Rattle.gw_meaning.specs.Entities.{touched, later, all_anew, entities_anew}
 use Rattle.gw_meaning.specs.Watching.{Waiter, is_watched, kind_of, transactions_of}
-use Rattle.gw_meaning.specs.Machine.{Machine, UserChain, raised, count_in, count_at, with_count, delay_at, user_chain_at}
+use Rattle.gw_meaning.specs.Machine.{Machine, UserChain, zero_state, raised, count_in, count_at, with_count, delay_at, user_chain_at}
 
 -- what is done where x is active, and nothing where none is
 abbrev pub with_active : Option Transaction → (Transaction → Machine) → Machine → Machine
@@ -310,18 +310,41 @@ advanced s time = record s {
   entities = later s.clock time s.entities;
 }
 
+-- A RESET counts anew: the relative clock, the entries of blocks and of user chains, and what is counted of entities.
+-- Who is where stays, and the clock goes on.
+abbrev pub count_anew : Count → Count
+count_anew c = record c { entries = 0 }
+
+abbrev pub user_chain_anew : UserChain → UserChain
+user_chain_anew c = record c { entries = 0 }
+
+abbrev pub reset : Machine → Machine
+reset s = record s {
+  since = s.clock;
+  commands = raised s.commands;
+  linked = all_anew user_chain_anew s.linked;
+  counts = all_anew count_anew s.counts;
+  entities = entities_anew s.clock s.entities;
+}
+
+-- A CLEAR begins anew: what is done of the commands stays, and the random streams stand where they stood.
+abbrev pub cleared : Machine → Machine
+cleared s = record zero_state { commands = raised s.commands; complete = s.complete; streams = s.streams }
+
 abbrev pub moved : Machine → Move → Machine
 moved s (moves.Start count arrivals) = with_making (all_made arrivals (making_of s)) (started count s)
 moved s moves.Command = record s { commands = raised s.commands }
+moved s moves.Reset = reset s
+moved s moves.Clear = cleared s
 moved s (moves.Enter id change fate) = with_active s.active (λ x. entering s x id change fate) s
 moved s (moves.Refuse id key units) = with_active s.active (λ x. refused s x id key units) s
 moved s (moves.Watch read) = with_active s.active (λ x. watching s x read) s
 moved s moves.Pick = picked s s.current
 moved s (moves.Clock time) = advanced s time
 
--- What a move writes: an entered block the counts of the block left and of the block entered, the entity that it names (a
--- user chain also where nobody leaves it), and the counts of the blocks that those whom it lets in leave and enter. No other move writes anything: neither a
--- command, nor a refused attempt, nor the clock.
+-- What a move writes: an entered block the counts of the block left and of the block entered, the entity that it names
+-- (a user chain also where nobody leaves it), and the counts of the blocks that those whom it lets in leave and enter.
+-- No other move writes anything: neither a command, nor a refused attempt, nor the clock.
 
 -- the counts that a transaction changes where it goes to a block
 abbrev pub crossing : Transaction → Option ℕ → List Watched

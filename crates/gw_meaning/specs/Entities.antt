@@ -1,8 +1,9 @@
--- The entities of a run, and what a block that is entered makes of the one that it names. (Manual. Our own: who came
--- while the clock stands, in place of the clock of each transaction's last QUEUE.)
-use Rattle.std.specs.Prelude.{ℕ, ℤ, Bool, false, ◌==◌, List, [], ◌∷◌, Option, Some, None, if◌then◌else◌, unwrap_or}
+-- The entities of a run, what a block that is entered makes of the one that it names, and what a RESET makes of all.
+-- (Manual. Our own: who came while the clock stands, in place of the clock of each transaction's last QUEUE; and that a
+-- table keeps its values, so that its classes are counted when a report is printed.)
+use Rattle.std.specs.Prelude.{ℕ, ℤ, Bool, false, ◌==◌, List, [], ◌∷◌, ◌++◌, Option, Some, None, if◌then◌else◌, unwrap_or, map}
 use Rattle.gw_names.specs.declared.key.Key.{Key}
-use Rattle.gw_entities.specs.Records.{Ownership, never_owned, seized, released, Line, no_line, queued, departed, Store, never_used, entered, left}
+use Rattle.gw_entities.specs.Records.{Ownership, never_owned, seized, released, facility_anew, Line, no_line, queued, departed, queue_anew, Store, never_used, entered, left, storage_anew}
 use Rattle.gw_entities.specs.Tables.{value_of, with_value}
 use Rattle.gw_entities.specs.Comings.{with_coming}
 use Rattle.gw_meaning.specs.declared.entity_change.Deed.{Deed}
@@ -17,12 +18,14 @@ use Rattle.gw_meaning.specs.declared.moves.Change.{Change}
 use Rattle.gw_meaning.specs.declared.moves.Change.TheVariants as changes
 
 pub record Entities : Type 0 where
-  -- the facilities, the queues, the storages, the savevalues and the switches, each in order of first touch
+  -- the facilities, the queues, the storages, the savevalues, the switches and the tables, each in order of first touch
   pub facilities : List (Key × Ownership)
   pub queues : List (Key × Line)
   pub storages : List (Key × Store)
   pub savevalues : List (Key × ℤ)
   pub switches : List (Key × Bool)
+  -- the values of each table, in the order in which they came
+  pub tables : List (Key × List ℤ)
   -- which transaction came to which queue since the clock stands as it does
   pub comings : List (Key × ℕ)
 
@@ -34,6 +37,7 @@ no_entities = record {
   storages = [];
   savevalues = [];
   switches = [];
+  tables = [];
   comings = [];
 }
 
@@ -56,6 +60,10 @@ savevalue_at e key = value_of e.savevalues key
 -- a switch: one that nothing touched is reset
 abbrev pub switch_at : Entities → Key → Bool
 switch_at e key = unwrap_or (value_of e.switches key) false
+
+-- the values of a table: one that nothing touched has none
+abbrev pub table_at : Entities → Key → List ℤ
+table_at e key = unwrap_or (value_of e.tables key) []
 
 -- a facility that its owner gives back: the next transaction takes it, where there is one
 abbrev pub given_back : Option ℕ → ℕ → Ownership → Ownership
@@ -100,6 +108,8 @@ done key (deeds.Storage deed) clock number e =
     record e { storages = with_value e.storages key (done_to_storage deed clock (store_at e key)) }
 done key (deeds.Savevalue to) clock number e = record e { savevalues = with_value e.savevalues key to }
 done key (deeds.Switch set) clock number e = record e { switches = with_value e.switches key set }
+done key (deeds.Table value) clock number e =
+    record e { tables = with_value e.tables key (table_at e key ++ value ∷ []) }
 
 -- what the change of a block makes of them
 abbrev pub touched : Change → ℕ → ℕ → Entities → Entities
@@ -109,3 +119,17 @@ touched change clock number e = e
 -- the clock goes on: nobody has come at another time yet
 abbrev pub later : ℕ → ℕ → Entities → Entities
 later before now e = record e { comings = if before == now then e.comings else [] }
+
+-- a RESET: each facility, queue and storage is counted anew, and each table loses its values. Savevalues and switches
+-- stay.
+abbrev pub all_anew : {K V : Type 0} → (V → V) → List (K × V) → List (K × V)
+all_anew anew entries = map (λ e. (e.0, anew e.1)) entries
+
+abbrev pub entities_anew : ℕ → Entities → Entities
+entities_anew clock e = record e {
+  facilities = all_anew (facility_anew clock) e.facilities;
+  queues = all_anew (queue_anew clock) e.queues;
+  storages = all_anew (storage_anew clock) e.storages;
+  tables =
+      all_anew (λ values. []) e.tables;
+}

@@ -32,7 +32,7 @@ use Rattle.gw_meaning.specs.declared.watched.EntityKind.TheVariants as kinds
 use Rattle.gw_meaning.specs.declared.watched.Watched.{Watched}
 use Rattle.gw_meaning.specs.declared.watched.Watched.TheVariants as watched
 use Rattle.gw_meaning.specs.Watching.{with_all_watched}
-use Rattle.gw_meaning.specs.Entities.{facility_at, line_at, store_at, savevalue_at, switch_at}
+use Rattle.gw_meaning.specs.Entities.{facility_at, line_at, store_at, savevalue_at, switch_at, table_at}
 use Rattle.gw_meaning.specs.Machine.{Machine, count_at, user_chain_at}
 use Rattle.gw_meaning.specs.Questions.{Answer, Prog, Gives, Ends, Asks, ◌>>=◌}
 
@@ -122,10 +122,10 @@ subject_prog subjects.Own = ends_with (ends.Error Range)
 subject_prog (subjects.Number n) = numbered (pos n)
 subject_prog (subjects.Name name) = asks (items.Named asking.Number name) (named name)
 
--- the storage that an attribute is of, which each version has
-abbrev pub storage_prog : Subject → (Key → Eval ℤ) → Eval ℤ
-storage_prog (subjects.Name name) f = f (keys.Defined name)
-storage_prog subject f = ends_with (ends.Error Range)
+-- the storage or the table that an attribute is of, which each version has
+abbrev pub defined_prog : Subject → (Key → Eval ℤ) → Eval ℤ
+defined_prog (subjects.Name name) f = f (keys.Defined name)
+defined_prog subject f = ends_with (ends.Error Range)
 
 -- the units of a storage that are left, of as many as it has
 abbrev pub units_left : Machine → Key → ℕ → Eval ℤ
@@ -167,8 +167,8 @@ one_if true = 1
 one_if false = 0
 
 -- of a facility: whether it is owned, and its captures; of a queue: its content, its entries, the greatest content and
--- the zero entries; of a savevalue: its value; of a switch: whether it is set; of a user chain: its content, and how many
--- were linked to it. One that nothing touched yet reads 0.
+-- the zero entries; of a savevalue: its value; of a switch: whether it is set; of a user chain: its content, and how
+-- many were linked to it. One that nothing touched yet reads 0.
 abbrev pub entity_value : Machine → Class → Key → Eval ℤ
 entity_value s class.F key = amount (owned (facility_at s.entities key).owner)
 entity_value s class.Fc key = amount (facility_at s.entities key).captures
@@ -188,6 +188,10 @@ storage_value s class.S key = amount (store_at s.entities key).level.content
 storage_value s class.Sc key = amount (store_at s.entities key).entries
 storage_value s class.Sm key = amount (store_at s.entities key).greatest
 storage_value s class key = ends_with (ends.Error Range)
+
+-- of a table: how many values it has
+abbrev pub table_value : Machine → Key → Eval ℤ
+table_value s key = amount (length (table_at s.entities key))
 
 -- of a block: its entries and its content
 abbrev pub block_value : Machine → Class → ℕ → Eval ℤ
@@ -222,10 +226,11 @@ attribute_prog s q class.X of = subject_prog of ~> (λ key. entity_value s class
 attribute_prog s q class.Ls of = subject_prog of ~> (λ key. entity_value s class.Ls key)
 attribute_prog s q class.Ch of = subject_prog of ~> (λ key. entity_value s class.Ch key)
 attribute_prog s q class.Cc of = subject_prog of ~> (λ key. entity_value s class.Cc key)
-attribute_prog s q class.S of = storage_prog of (λ key. storage_value s class.S key)
+attribute_prog s q class.S of = defined_prog of (λ key. storage_value s class.S key)
 attribute_prog s q class.R of = left_prog s of
-attribute_prog s q class.Sc of = storage_prog of (λ key. storage_value s class.Sc key)
-attribute_prog s q class.Sm of = storage_prog of (λ key. storage_value s class.Sm key)
+attribute_prog s q class.Sc of = defined_prog of (λ key. storage_value s class.Sc key)
+attribute_prog s q class.Sm of = defined_prog of (λ key. storage_value s class.Sm key)
+attribute_prog s q class.Tc of = defined_prog of (λ key. table_value s key)
 attribute_prog s q class.N of = block_count of (λ id. block_value s class.N id)
 attribute_prog s q class.W of = block_count of (λ id. block_value s class.W id)
 attribute_prog s q class.Rn of = random_prog of
@@ -312,9 +317,9 @@ time_prog s q mean range = time_by s q mean range (modifier_of range)
 abbrev pub entity_watched : EntityKind → Subject → Eval (List Watched)
 entity_watched kind of = subject_prog of ~> (λ key. gives (watched.Entity kind key ∷ []))
 
-abbrev pub storage_watched : Subject → Eval (List Watched)
-storage_watched (subjects.Name name) = gives (watched.Entity kinds.Storage (keys.Defined name) ∷ [])
-storage_watched subject = gives []
+abbrev pub defined_watched : EntityKind → Subject → Eval (List Watched)
+defined_watched kind (subjects.Name name) = gives (watched.Entity kind (keys.Defined name) ∷ [])
+defined_watched kind subject = gives []
 
 -- the counts of the block that an attribute is of
 abbrev pub counts_of : Option ℕ → List Watched
@@ -338,10 +343,11 @@ watched_prog class.X of = entity_watched kinds.Savevalue of
 watched_prog class.Ls of = entity_watched kinds.Switch of
 watched_prog class.Ch of = entity_watched kinds.UserChain of
 watched_prog class.Cc of = entity_watched kinds.UserChain of
-watched_prog class.S of = storage_watched of
-watched_prog class.R of = storage_watched of
-watched_prog class.Sc of = storage_watched of
-watched_prog class.Sm of = storage_watched of
+watched_prog class.S of = defined_watched kinds.Storage of
+watched_prog class.R of = defined_watched kinds.Storage of
+watched_prog class.Sc of = defined_watched kinds.Storage of
+watched_prog class.Sm of = defined_watched kinds.Storage of
+watched_prog class.Tc of = defined_watched kinds.Table of
 watched_prog class.N of = counts_watched of
 watched_prog class.W of = counts_watched of
 watched_prog class of = gives []

@@ -1,6 +1,7 @@
 pub mod Places
 pub mod Statements
 pub mod Texts
+pub mod Classes
 pub mod Listing
 pub mod Numbers
 pub mod Entities

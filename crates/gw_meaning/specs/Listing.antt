@@ -59,10 +59,11 @@ abbrev pub is_command : Numbered → Bool
 is_command line = is_some (command_of line)
 
 -- the operands of a statement that is evaluated: those of a block, the expression of a VARIABLE, and the argument of a
--- FUNCTION
+-- FUNCTION or of a TABLE
 abbrev pub operands_of_definition : Definition → List (Option Term)
 operands_of_definition (definitions.Variable expression) = Some expression ∷ []
 operands_of_definition (definitions.Function function) = Some function.argument ∷ []
+operands_of_definition (definitions.Table table) = Some table.argument ∷ []
 operands_of_definition definition = []
 
 abbrev pub operands_of_body : Body → List (Option Term)
@@ -211,6 +212,14 @@ function_of definition = None
 
 abbrev pub function_at : Listing → List ℕ → Option Function
 function_at t name = first_said (λ line. function_of (defines name line)) t.lines
+
+-- what a TABLE evaluates for each value, and that of the TABLE of a name, where there is one
+abbrev pub argument_of : Option Definition → Option Term
+argument_of (Some (definitions.Table table)) = Some table.argument
+argument_of definition = None
+
+abbrev pub argument_at : Listing → List ℕ → Option Term
+argument_at t name = first_said (λ line. argument_of (defines name line)) t.lines
 
 -- the i-th statement
 abbrev pub statement_at : Listing → ℕ → Option Statement

@@ -9,7 +9,7 @@ use Rattle.gw_meaning.specs.declared.item.Item.TheVariants as items
 use Rattle.gw_meaning.specs.declared.item.End.{End}
 use Rattle.gw_meaning.specs.declared.statement.Block.{Block}
 use Rattle.gw_meaning.specs.declared.statement.Command.{Command}
-use Rattle.gw_meaning.specs.Listing.{Listing, block_at, after_at, label_at, capacity_at, number_at, variable_at, function_at, generates_in, command_at}
+use Rattle.gw_meaning.specs.Listing.{Listing, block_at, after_at, label_at, capacity_at, number_at, variable_at, function_at, argument_at, generates_in, command_at}
 
 -- what a question is answered with
 abbrev pub Answer : Item → Type 0
@@ -21,6 +21,7 @@ Answer (items.Named (asking.Fits units) name) = Bool
 Answer (items.Named asking.Storage name) = ℕ
 Answer (items.Named asking.Variable name) = Option Term
 Answer (items.Named asking.Function name) = Option Function
+Answer (items.Named asking.Table name) = Option Term
 Answer items.Generates = List ℕ
 Answer (items.Cmd i) = Option Command
 Answer items.Seed = ℕ
@@ -36,6 +37,7 @@ ask t seed (items.Named (asking.Fits units) name) = nat_le units (capacity_at t 
 ask t seed (items.Named asking.Storage name) = capacity_at t name
 ask t seed (items.Named asking.Variable name) = variable_at t name
 ask t seed (items.Named asking.Function name) = function_at t name
+ask t seed (items.Named asking.Table name) = argument_at t name
 ask t seed items.Generates = generates_in t.lines
 ask t seed (items.Cmd i) = command_at t i
 ask t seed items.Seed = seed

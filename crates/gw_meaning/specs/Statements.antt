@@ -46,11 +46,14 @@ verb_of_definition (definitions.Storage capacity) = verbs.Definition definition_
 verb_of_definition (definitions.Equ value) = verbs.Definition definition_verbs.Equ
 verb_of_definition (definitions.Variable expression) = verbs.Definition definition_verbs.Variable
 verb_of_definition (definitions.Function function) = verbs.Definition definition_verbs.Function
+verb_of_definition (definitions.Table table) = verbs.Definition definition_verbs.Table
 
 -- a command's verb
 abbrev pub verb_of_command : Command → Verb
 verb_of_command (commands.Start count) = verbs.Command command_verbs.Start
 verb_of_command (commands.Rmult values) = verbs.Command command_verbs.Rmult
+verb_of_command commands.Reset = verbs.Command command_verbs.Reset
+verb_of_command commands.Clear = verbs.Command command_verbs.Clear
 
 -- a statement's verb
 abbrev pub verb_of_body : Body → Verb

@@ -7,7 +7,7 @@ use Rattle.gw_nums.specs.Range.{is_negative, is_below, magnitude}
 use Rattle.gw_nums.specs.declared.val.ArithmeticFault.{ArithmeticFault}
 use Rattle.gw_expr.specs.Arithmetic.{applied}
 use Rattle.gw_expr.specs.declared.token.Operator.TheVariants as operators
-use Rattle.gw_expr.specs.Term.{Term, Label, Fraction, Defined, Order}
+use Rattle.gw_expr.specs.Term.{Term, Label, Fraction, Defined, Table, Order}
 use Rattle.gw_expr.specs.declared.stop.Stop.TheVariants.{NegativeTime, NotOwner, LeaveTooMany, DepartTooMany, NoParameter, NoNextBlock, TooManyTransactions, BadCount, TooManyUnits, Range}
 use Rattle.gw_names.specs.declared.key.Key.{Key}
 use Rattle.gw_names.specs.declared.key.Key.TheVariants as keys
@@ -128,7 +128,7 @@ for_one s x = record {
 abbrev pub first_arrivals_prog : Machine → ℕ → Eval (List Arrival)
 first_arrivals_prog s count = asks items.Generates (λ ids. arrivals_prog s (for_none count) ids [])
 
--- Command: where no START is under way. An RMULT sets streams, and does no more.
+-- Command: where no START is under way. An RMULT sets streams, and does no more; a RESET and a CLEAR ask nothing.
 abbrev pub start_prog : Machine → Bool → ℕ → Eval Move
 start_prog s true count = gives (moves.Start count [])
 start_prog s false count = first_arrivals_prog s count ~> (λ first. gives (moves.Start count first))
@@ -140,6 +140,8 @@ abbrev pub command_prog : Machine → Option Command → Eval Move
 command_prog s None = ends_with ends.CommandsDone
 command_prog s (Some (commands.Start count)) = start_prog s s.primed count
 command_prog s (Some (commands.Rmult values)) = rmult_prog values
+command_prog s (Some commands.Reset) = gives moves.Reset
+command_prog s (Some commands.Clear) = gives moves.Clear
 
 -- Attempt: the active transaction x tries the block at id.
 abbrev pub generate_prog :
@@ -455,8 +457,8 @@ abbrev pub savevalue_prog : Machine → Asker → ℕ → Auxiliary → Option T
 savevalue_prog s q id sign entity value = entity_prog s q entity ~> (λ key. value_there s q value ~>
     (λ v. savevalue_with id sign key (savevalue_at s.entities key) v))
 
--- SPLIT: copies of the transaction, as many as its value says and as may live; they go to the block with the label, where
--- there is one. No label is looked up where no copy is made.
+-- SPLIT: copies of the transaction, as many as its value says and as may live; they go to the block with the label,
+-- where there is one. No label is looked up where no copy is made.
 abbrev pub split_into : ℕ → ℕ → Option ℕ → Eval Move
 split_into id count to = gives (moves.Enter id (changes.Split count to) fates.Active)
 
@@ -508,7 +510,19 @@ unlink_prog s q id entity label count =
     entity_prog s q entity ~> (λ key. leaving_prog s q count (length (user_chain_at s.linked key).members) ~>
     (λ n. unlink_count id key label n))
 
--- by the block's verb; no other verb is read so far
+-- TABULATE: the argument of the table is evaluated, and its value comes to the table's others.
+abbrev pub tabulate_to : ℕ → Key → ℤ → Eval Move
+tabulate_to id key v = gives (moves.Enter id (changes.Entity (key, deeds.Table v)) fates.Active)
+
+abbrev pub tabulate_with : Machine → Asker → ℕ → Key → Option Term → Eval Move
+tabulate_with s q id key argument = value_there s q argument ~> (λ v. tabulate_to id key v)
+
+abbrev pub tabulate_prog : Machine → Asker → ℕ → Option Term → Eval Move
+tabulate_prog s q id (Some (Table name)) =
+    asks (items.Named asking.Table name) (tabulate_with s q id (keys.Defined name))
+tabulate_prog s q id table = ends_with (ends.Error Range)
+
+-- by the block's verb
 abbrev pub block_prog : Machine → Transaction → ℕ → Block → BlockVerb → Eval Move
 block_prog s x id b blocks.Generate =
     generate_prog s x id (operand b A) (operand b B) (operand b D) (operand b E)
@@ -530,12 +544,12 @@ block_prog s x id b blocks.Savevalue =
 block_prog s x id b blocks.Split = split_prog s (for_one s x) id (operand b A) (operand b B)
 block_prog s x id b blocks.Link = link_prog s (for_one s x) id (operand b A) (operand b B)
 block_prog s x id b blocks.Unlink = unlink_prog s (for_one s x) id (operand b A) (operand b B) (operand b C)
+block_prog s x id b blocks.Tabulate = tabulate_prog s (for_one s x) id (operand b A)
 block_prog s x id b blocks.Mark = mark_prog id
 block_prog s x id b blocks.Priority = priority_prog s (for_one s x) id (operand b A)
 block_prog s x id b blocks.Buffer = buffer_prog id
 block_prog s x id b blocks.Assign = assign_prog s (for_one s x) id b.auxiliary (operand b A) (operand b B)
 block_prog s x id b blocks.Loop = loop_prog s (for_one s x) id (operand b A) (operand b B)
-block_prog s x id b verb = ends_with (ends.Error NoNextBlock)
 
 abbrev pub meet_prog : Machine → Transaction → ℕ → Option Block → Eval Move
 meet_prog s x id None = ends_with (ends.Error NoNextBlock)

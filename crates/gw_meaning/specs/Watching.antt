@@ -38,6 +38,7 @@ kind_of (deeds.Queue deed) = kinds.Queue
 kind_of (deeds.Storage deed) = kinds.Storage
 kind_of (deeds.Savevalue to) = kinds.Savevalue
 kind_of (deeds.Switch set) = kinds.Switch
+kind_of (deeds.Table value) = kinds.Table
 
 -- the transactions of those who wait
 abbrev pub transactions_of : List Waiter → List Transaction

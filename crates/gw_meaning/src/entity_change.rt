@@ -13,6 +13,8 @@ pub enum Deed {
     Savevalue { to: Val },
     /// The switch is set, or else reset.
     Switch { set: bool },
+    /// The table has one more value.
+    Table { value: Val },
 }
 
 /// What a block makes of a facility.

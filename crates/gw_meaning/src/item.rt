@@ -18,6 +18,8 @@ pub enum Asked {
     Variable,
     /// What are the argument, the type and the points of the FUNCTION of this name, if there is one?
     Function,
+    /// What is the argument of the TABLE of this name, if there is one?
+    Table,
 }
 
 /// A question that a step may ask of the version and the seed. Blocks go by their statement ids.

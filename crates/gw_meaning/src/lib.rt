@@ -1,10 +1,10 @@
 //! What the language means: statements, a version's answers, the state, the questions of a step, the run.
 //!
-//! The definitions stand in `specs/`, in this order: Statements and Texts (verbs, how a statement is listed), Listing
-//! and Numbers (what a version says), Places, Entities, Watching and Machine (the state), Questions (what a step may
-//! ask), Evaluation (values and draws), Changes (what a move does to a state, and whom it wakes), Step (which move it
-//! is, and the run), Reads (what a run read), Point (where a report is taken). The types here are the plain data that
-//! they speak of.
+//! The definitions stand in `specs/`, in this order: Statements and Texts (verbs, how a statement is listed), Classes
+//! (those of a TABLE), Listing and Numbers (what a version says), Places, Entities, Watching and Machine (the state),
+//! Questions (what a step may ask), Evaluation (values and draws), Changes (what a move does to a state, and whom it
+//! wakes), Step (which move it is, and the run), Reads (what a run read), Point (where a report is taken). The types
+//! here are the plain data that they speak of.
 #![tactic(auto)]
 
 mod asker;
@@ -16,6 +16,7 @@ mod moves;
 pub mod operands;
 mod statement;
 mod statement_id;
+mod table;
 mod text;
 mod transaction;
 mod transaction_change;
@@ -29,6 +30,7 @@ pub use item::{Asked, End, Item, Outcome};
 pub use moves::{Arrival, Change, Fate, Move};
 pub use statement::{Block, Body, Command, Definition, Numbered, Replication, Statement};
 pub use statement_id::StatementId;
+pub use table::{Classes, Table};
 pub use transaction::{Count, Event, Transaction};
 pub use transaction_change::TransactionChange;
 pub use watched::{EntityKind, Watched};

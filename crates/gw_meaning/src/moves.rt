@@ -67,6 +67,10 @@ pub enum Move {
     },
     /// A command that changes nothing but the count of commands: the streams are what its evaluation leaves.
     Command,
+    /// A RESET counts anew.
+    Reset,
+    /// A CLEAR begins anew.
+    Clear,
     /// The active transaction enters a block.
     Enter {
         id: StatementId,

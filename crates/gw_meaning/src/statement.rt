@@ -4,6 +4,7 @@ ghost use Rattle.gw_meaning.specs.Listing.{block_of, definition_of, command_of, 
 
 use crate::auxiliary::Auxiliary;
 use crate::statement_id::StatementId;
+use crate::table::Table;
 use gw_expr::{Expr, Function, Row};
 use gw_names::{BlockVerb, CommandVerb, DefinitionVerb, Name, Verb};
 use gw_nums::Val;
@@ -46,6 +47,8 @@ pub enum Definition {
     Variable { expression: Expr },
     /// What an argument comes to, wherever the name stands behind `FN$`.
     Function(Function),
+    /// What a TABULATE of the name evaluates, and the classes in which a report counts the values.
+    Table(Table),
 }
 
 /// A command.
@@ -55,6 +58,10 @@ pub enum Command {
     Start { count: u64 },
     /// Sets streams 1 to 7, each to its value (1 to 2,147,483,646) where one is given.
     Rmult { values: Row<Option<u32>> },
+    /// Counts anew: what is there stays.
+    Reset,
+    /// Begins anew: nothing stays but the streams.
+    Clear,
 }
 
 /// A statement of a version with its id, which edits leave alone.
@@ -118,6 +125,7 @@ impl Definition {
             Definition::Equ { .. } => Verb::Definition(DefinitionVerb::Equ),
             Definition::Variable { .. } => Verb::Definition(DefinitionVerb::Variable),
             Definition::Function(_) => Verb::Definition(DefinitionVerb::Function),
+            Definition::Table(_) => Verb::Definition(DefinitionVerb::Table),
         }
     }
 
@@ -134,6 +142,7 @@ impl Definition {
                 expression: expression.copy()?,
             }),
             Definition::Function(function) => Ok(Definition::Function(function.copy(alloc)?)),
+            Definition::Table(table) => Ok(Definition::Table(table.copy()?)),
         }
     }
 }
@@ -146,6 +155,8 @@ impl Command {
         match self {
             Command::Start { .. } => Verb::Command(CommandVerb::Start),
             Command::Rmult { .. } => Verb::Command(CommandVerb::Rmult),
+            Command::Reset => Verb::Command(CommandVerb::Reset),
+            Command::Clear => Verb::Command(CommandVerb::Clear),
         }
     }
 
@@ -158,6 +169,8 @@ impl Command {
             Command::Rmult { values } => Ok(Command::Rmult {
                 values: Row::from_vec(Vec::from_slice(alloc, values.as_slice())?),
             }),
+            Command::Reset => Ok(Command::Reset),
+            Command::Clear => Ok(Command::Clear),
         }
     }
 }

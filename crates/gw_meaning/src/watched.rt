@@ -10,6 +10,7 @@ pub enum EntityKind {
     Savevalue,
     Switch,
     UserChain,
+    Table,
 }
 
 /// What a refused attempt read, and a step may write.

@@ -6,7 +6,7 @@ use Rattle.std.proofs.lemmas.Bool.{cases_Bool, and_parts, and_from, both_ways, o
 use Rattle.std.proofs.lemmas.Option.{get_or_from_slice_get}
 use Rattle.std.proofs.lemmas.Slice.Eq.{bytes_eq-Decides}
 use Rattle.gw_names.specs.declared.class.Class.{Class}
-use Rattle.gw_names.specs.declared.class.Class.TheVariants as class
+use Rattle.gw_names.specs.declared.verb.DefinitionVerb.{DefinitionVerb}
 use Rattle.gw_names.specs.declared.verb.DefinitionVerb.TheVariants as definition_verbs
 use Rattle.gw_names.specs.declared.verb.Verb.{Verb}
 use Rattle.gw_names.specs.declared.verb.Verb.TheVariants as verbs
@@ -16,8 +16,9 @@ use Rattle.gw_expr.specs.declared.token.Token.{Token}
 use Rattle.gw_expr.specs.declared.token.Token.TheVariants as tokens
 use Rattle.gw_expr.specs.declared.attribute.Subject.{Subject}
 use Rattle.gw_expr.specs.declared.attribute.Subject.TheVariants as subjects
-use Rattle.gw_expr.specs.Term.{Term, Value, Computed, Named, Defined, Label, Fraction, Order, HasAtom, holds_of_atom, holds_of_token}
+use Rattle.gw_expr.specs.Term.{Term, Value, Computed, Named, Defined, Table, Label, Fraction, Order, HasAtom, holds_of_atom, holds_of_token}
 use Rattle.gw_meaning.specs.Listing.{Listing, operands_of, labelled_in, number_of, has_label}
+use Rattle.gw_meaning.specs.Statements.{verb_of_definition}
 use Rattle.gw_meaning.specs.declared.statement.Definition.{Definition}
 use Rattle.gw_meaning.specs.declared.statement.Definition.TheVariants as definitions
 use Rattle.gw_meaning.specs.declared.statement.Numbered.{Numbered}
@@ -25,10 +26,10 @@ use Rattle.gw_meaning.specs.declared.statement.Replication.{Replication}
 use Rattle.gw_model.specs.declared.fault.ModelFault.{ModelFault}
 use Rattle.gw_model.specs.declared.fault.ModelFault.TheVariants.{TooMany, BadSeed, BadHorizon, LabelTwice, NoSuchLabel, NoSuchDefinition, EquNamedDefinition, Memory}
 use Rattle.gw_model.specs.Listed.{counted_label}
-use Rattle.gw_model.specs.Faults.{is_too_long, is_outside, is_bad_replication, has_number, has_number_twice, has_bad_replication, is_bad_horizon, is_labelled, has_label_twice, holds_of, holds_in, is_of_block, is_of_storage, is_of_definition, is_storage_or_equ, is_variable_or_equ, is_function_or_equ, is_wanted_or_equ, lacks_name, has_name, counts_unknown, is_unknown_label, has_unknown_label, has_no_value, is_undefined, has_unknown_definition, is_of_equ, is_equ_named, has_equ_named}
-use Rattle.gw_model.specs.FirstFaults.{HasOperand, IsOutside, name_in, definition_verb, NamesLabel, goes_to, counts, IsNoLabel, NamesDefinition, uses, stands_for, asks_of, IsNeither, IsNoDefinition, HasFault, many_statements, many_replications, bad_seed, bad_number, number_twice, bad_horizon, bad_limit, label_twice, no_label, no_definition, equ_named, in_order, FirstOf, is_there, is_later, FoundAreFirst, FirstAreFound, NoneAreLeft}
+use Rattle.gw_model.specs.Faults.{is_too_long, is_outside, is_bad_replication, has_number, has_number_twice, has_bad_replication, is_bad_horizon, is_labelled, has_label_twice, holds_of, holds_in, is_of_block, wanted_verb, has_verb, has_verb_or_equ, lacks_definition, wants_equ, lacks_name, has_name, counts_unknown, is_unknown_label, has_unknown_label, has_no_value, is_undefined, has_unknown_definition, is_of_equ, is_equ_named, has_equ_named}
+use Rattle.gw_model.specs.FirstFaults.{HasOperand, IsOutside, name_in, NamesLabel, goes_to, counts, IsNoLabel, NamesDefinition, uses, tabulates, stands_for, asks_of, IsNeither, IsNoDefinition, HasFault, many_statements, many_replications, bad_seed, bad_number, number_twice, bad_horizon, bad_limit, label_twice, no_label, no_definition, equ_named, in_order, FirstOf, is_there, is_later, FoundAreFirst, FirstAreFound, NoneAreLeft}
 use Rattle.gw_model.proofs.Apart.{none_of, numbers_apart, labels_apart}
-use Rattle.gw_model.proofs.Known.{known, definition, no_operand, no_atom}
+use Rattle.gw_model.proofs.Known.{known, definition, no_operand, no_atom, is_verb, verb_holds, equ_told, equ_is, other_than_equ}
 
 -- ---- what a scan finds
 
@@ -193,6 +194,7 @@ atom_found p (Named name) h = absurd cc
 atom_found p (Label name) h = absurd cc
 atom_found p (Fraction n) h = absurd cc
 atom_found p (Defined name) h = absurd cc
+atom_found p (Table name) h = absurd cc
 atom_found p (Order discipline) h = absurd cc
 
 -- and each
@@ -241,6 +243,7 @@ unknown_found t (Computed ts) h = counts_found t (Computed ts) h
 unknown_found t (Named name) h = absurd cc
 unknown_found t (Fraction n) h = absurd cc
 unknown_found t (Defined name) h = absurd cc
+unknown_found t (Table name) h = absurd cc
 unknown_found t (Order discipline) h = absurd cc
 
 unknown_holds : (t : Listing) {term : Term} {name : Option (List ℕ)} → NamesLabel term name → IsNoLabel t name
@@ -254,105 +257,64 @@ unknown_holds t (counts term class of has is) none =
 
 -- ---- names without the definition that they need
 
-abbrev storage : Verb
-storage = verbs.Definition definition_verbs.Storage
-
 abbrev equ : Verb
 equ = verbs.Definition definition_verbs.Equ
 
-abbrev variable : Verb
-variable = verbs.Definition definition_verbs.Variable
+neither : (a b : Bool) → not (a || b) ≡ true → (a ≡ false) × (b ≡ false)
+neither true b h = absurd cc
+neither false true h = absurd cc
+neither false false h = (refl, refl)
 
-abbrev function : Verb
-function = verbs.Definition definition_verbs.Function
+not_so : (a : Bool) → not a ≡ true → a ≡ false
+not_so true h = absurd cc
+not_so false h = refl
 
-no_storage : (o : Option Definition) → not (is_storage_or_equ o) ≡ true → IsNeither storage o
-no_storage None h = tt
-no_storage (Some (definitions.Storage capacity)) h = absurd cc
-no_storage (Some (definitions.Equ value)) h = absurd cc
-no_storage (Some (definitions.Variable expression)) h = (λ e. cc, λ e. cc)
-no_storage (Some (definitions.Function f)) h = (λ e. cc, λ e. cc)
+no_verb : (verb : DefinitionVerb) (o : Option Definition) → not (has_verb_or_equ verb o) ≡ true → IsNeither (verbs.Definition verb) o
+no_verb verb None h = tt
+no_verb verb (Some d) h =
+    let n = neither (has_verb verb d) (has_verb definition_verbs.Equ d) h in (
+      λ e. both_ways (has_verb verb d) n.0 (verb_holds verb d e),
+      λ e. both_ways (has_verb definition_verbs.Equ d) n.1 (verb_holds definition_verbs.Equ d e),
+    )
 
-no_variable : (o : Option Definition) → not (is_variable_or_equ o) ≡ true → IsNeither variable o
-no_variable None h = tt
-no_variable (Some (definitions.Storage capacity)) h = (λ e. cc, λ e. cc)
-no_variable (Some (definitions.Equ value)) h = absurd cc
-no_variable (Some (definitions.Variable expression)) h = absurd cc
-no_variable (Some (definitions.Function f)) h = (λ e. cc, λ e. cc)
+lacks_verb : (verb : DefinitionVerb) (d : Definition) → (verb_of_definition d ≢ verbs.Definition verb) → has_verb verb d ≡ false
+lacks_verb verb d other =
+    elim (cases_Bool (has_verb verb d)) [
+      | inl is ↦ absurd (other (is_verb verb d is))
+      | inr fails ↦ fails
+    ]
 
-no_function : (o : Option Definition) → not (is_function_or_equ o) ≡ true → IsNeither function o
-no_function None h = tt
-no_function (Some (definitions.Storage capacity)) h = (λ e. cc, λ e. cc)
-no_function (Some (definitions.Equ value)) h = absurd cc
-no_function (Some (definitions.Variable expression)) h = (λ e. cc, λ e. cc)
-no_function (Some (definitions.Function f)) h = absurd cc
+verb_fails : (verb : DefinitionVerb) (o : Option Definition) → IsNeither (verbs.Definition verb) o → not (has_verb_or_equ verb o) ≡ true
+verb_fails verb None h = refl
+verb_fails verb (Some d) h = rw (lacks_verb verb d h.0, lacks_verb definition_verbs.Equ d h.1) refl
 
 no_number : (o : Option Definition) → not (is_some (number_of o)) ≡ true → IsNeither equ o
 no_number None h = tt
-no_number (Some (definitions.Storage capacity)) h = (λ e. cc, λ e. cc)
-no_number (Some (definitions.Equ value)) h = absurd cc
-no_number (Some (definitions.Variable expression)) h = (λ e. cc, λ e. cc)
-no_number (Some (definitions.Function f)) h = (λ e. cc, λ e. cc)
-
-storage_fails : (o : Option Definition) → IsNeither storage o → not (is_storage_or_equ o) ≡ true
-storage_fails None h = refl
-storage_fails (Some (definitions.Storage capacity)) h = absurd (h.0 refl)
-storage_fails (Some (definitions.Equ value)) h = absurd (h.1 refl)
-storage_fails (Some (definitions.Variable expression)) h = refl
-storage_fails (Some (definitions.Function f)) h = refl
-
-variable_fails : (o : Option Definition) → IsNeither variable o → not (is_variable_or_equ o) ≡ true
-variable_fails None h = refl
-variable_fails (Some (definitions.Storage capacity)) h = refl
-variable_fails (Some (definitions.Equ value)) h = absurd (h.1 refl)
-variable_fails (Some (definitions.Variable expression)) h = absurd (h.0 refl)
-variable_fails (Some (definitions.Function f)) h = refl
-
-function_fails : (o : Option Definition) → IsNeither function o → not (is_function_or_equ o) ≡ true
-function_fails None h = refl
-function_fails (Some (definitions.Storage capacity)) h = refl
-function_fails (Some (definitions.Equ value)) h = absurd (h.1 refl)
-function_fails (Some (definitions.Variable expression)) h = refl
-function_fails (Some (definitions.Function f)) h = absurd (h.0 refl)
+no_number (Some d) h =
+    let f = not_so (has_verb definition_verbs.Equ d) (ap not (sym (equ_told d)) ∙ h) in (
+      λ e. both_ways (has_verb definition_verbs.Equ d) f (verb_holds definition_verbs.Equ d e),
+      λ e. both_ways (has_verb definition_verbs.Equ d) f (verb_holds definition_verbs.Equ d e),
+    )
 
 number_fails : (o : Option Definition) → IsNeither equ o → not (is_some (number_of o)) ≡ true
 number_fails None h = refl
-number_fails (Some (definitions.Storage capacity)) h = refl
-number_fails (Some (definitions.Equ value)) h = absurd (h.0 refl)
-number_fails (Some (definitions.Variable expression)) h = refl
-number_fails (Some (definitions.Function f)) h = refl
+number_fails (Some d) h = ap not (equ_told d ∙ lacks_verb definition_verbs.Equ d h.0)
 
-wanted_storage : (class : Class) (o : Option Definition) → is_of_storage class ≡ true → is_wanted_or_equ class o ≡ is_storage_or_equ o
-wanted_storage class o is = rw is refl
+-- whether a name has a definition with a verb, or an EQU in its place
+abbrev with_verb : Listing → DefinitionVerb → List ℕ → Bool
+with_verb t verb name = has_verb_or_equ verb (definition t.lines name)
 
--- where a class is of neither a VARIABLE nor a FUNCTION, it is of a storage
-no_wanted : (class : Class) (o : Option Definition) → is_of_definition class ≡ true → not (is_wanted_or_equ class o) ≡ true
-    → IsNeither (definition_verb class) o
-no_wanted class.V o is h = no_variable o h
-no_wanted class.Fn o is h = no_function o h
-no_wanted class o is h = no_storage o (ap not (sym (wanted_storage class o is)) ∙ h)
+no_definition_in : (t : Listing) (verb : DefinitionVerb) (of : Subject) → lacks_name (with_verb t verb) of ≡ true
+    → IsNoDefinition t (verbs.Definition verb) (name_in of)
+no_definition_in t verb subjects.Own h = tt
+no_definition_in t verb (subjects.Number n) h = tt
+no_definition_in t verb (subjects.Name name) h = no_verb verb (definition t.lines name) h
 
-wanted_fails : (class : Class) (o : Option Definition) → is_of_definition class ≡ true → IsNeither (definition_verb class) o
-    → not (is_wanted_or_equ class o) ≡ true
-wanted_fails class.V o is h = variable_fails o h
-wanted_fails class.Fn o is h = function_fails o h
-wanted_fails class o is h = ap not (wanted_storage class o is) ∙ storage_fails o h
-
--- whether a name has the definition that the attributes of a class are of, or an EQU
-abbrev wanted : Listing → Class → List ℕ → Bool
-wanted t class name = is_wanted_or_equ class (definition t.lines name)
-
-no_definition_in : (t : Listing) (class : Class) (of : Subject) → is_of_definition class ≡ true → lacks_name (wanted t class) of ≡ true
-    → IsNoDefinition t (definition_verb class) (name_in of)
-no_definition_in t class subjects.Own is h = tt
-no_definition_in t class (subjects.Number n) is h = tt
-no_definition_in t class (subjects.Name name) is h = no_wanted class (definition t.lines name) is h
-
-no_definition_holds : (t : Listing) (class : Class) (of : Subject) → is_of_definition class ≡ true
-    → IsNoDefinition t (definition_verb class) (name_in of) → lacks_name (wanted t class) of ≡ true
-no_definition_holds t class subjects.Own is none = refl
-no_definition_holds t class (subjects.Number n) is none = refl
-no_definition_holds t class (subjects.Name name) is none = wanted_fails class (definition t.lines name) is none
+no_definition_holds : (t : Listing) (verb : DefinitionVerb) (of : Subject) → IsNoDefinition t (verbs.Definition verb) (name_in of)
+    → lacks_name (with_verb t verb) of ≡ true
+no_definition_holds t verb subjects.Own none = refl
+no_definition_holds t verb (subjects.Number n) none = refl
+no_definition_holds t verb (subjects.Name name) none = verb_fails verb (definition t.lines name) none
 
 abbrev NamesNoDefinition : Listing → Term → Type 0
 NamesNoDefinition t term = (verb : Verb) × (name : Option (List ℕ)) × NamesDefinition term verb name × IsNoDefinition t verb name
@@ -362,13 +324,19 @@ value_lacking t term h = let f = atom_found (has_no_value (definition t.lines)) 
   go : (atom : Atom) → HasAtom term atom → has_no_value (definition t.lines) atom ≡ true → NamesNoDefinition t term
   go (atoms.Constant value) has e = absurd cc
   go (atoms.Number name) has e = (equ, Some name, stands_for term name has, no_number (definition t.lines name) e)
-  go (atoms.Attribute class of) has e =
-      let parts = and_parts (is_of_definition class) (lacks_name (wanted t class) of) e in
-      (definition_verb class, name_in of, asks_of term class of has parts.0, no_definition_in t class of parts.0 parts.1)
+  go (atoms.Attribute class of) has e = by_verb (wanted_verb class) refl e where
+    by_verb : (wanted : Option DefinitionVerb) → wanted_verb class ≡ wanted → lacks_definition (definition t.lines) wanted of ≡ true
+        → NamesNoDefinition t term
+    by_verb None is h = absurd cc
+    by_verb (Some verb) is h =
+        (verbs.Definition verb, name_in of, asks_of term class of verb has is, no_definition_in t verb of h)
 
 undefined_found : (t : Listing) (term : Term) → is_undefined (definition t.lines) term ≡ true → NamesNoDefinition t term
 unfolding is_undefined
-undefined_found t (Defined name) h = (storage, Some name, uses name, no_storage (definition t.lines name) h)
+undefined_found t (Defined name) h =
+    (verbs.Definition definition_verbs.Storage, Some name, uses name, no_verb definition_verbs.Storage (definition t.lines name) h)
+undefined_found t (Table name) h =
+    (verbs.Definition definition_verbs.Table, Some name, tabulates name, no_verb definition_verbs.Table (definition t.lines name) h)
 undefined_found t (Value a) h = value_lacking t (Value a) h
 undefined_found t (Computed ts) h = value_lacking t (Computed ts) h
 undefined_found t (Named name) h = absurd cc
@@ -379,28 +347,17 @@ undefined_found t (Order discipline) h = absurd cc
 undefined_holds : (t : Listing) {term : Term} {verb : Verb} {name : Option (List ℕ)} → NamesDefinition term verb name
     → IsNoDefinition t verb name → is_undefined (definition t.lines) term ≡ true
 unfolding is_undefined
-undefined_holds t (uses name) none = storage_fails (definition t.lines name) none
+undefined_holds t (uses name) none = verb_fails definition_verbs.Storage (definition t.lines name) none
+undefined_holds t (tabulates name) none = verb_fails definition_verbs.Table (definition t.lines name) none
 undefined_holds t (stands_for term name has) none =
     atom_holds (is_undefined (definition t.lines)) (has_no_value (definition t.lines)) (λ a. refl) (λ ts. refl) term
     (atoms.Number name) has (number_fails (definition t.lines name) none)
-undefined_holds t (asks_of term class of has is) none =
+undefined_holds t (asks_of term class of verb has is) none =
     atom_holds (is_undefined (definition t.lines)) (has_no_value (definition t.lines)) (λ a. refl) (λ ts. refl) term
     (atoms.Attribute class of) has
-    (and_from (is_of_definition class) (lacks_name (wanted t class) of) is (no_definition_holds t class of is none))
+    (ap (λ (v : Option DefinitionVerb). lacks_definition (definition t.lines) v of) is ∙ no_definition_holds t verb of none)
 
 -- ---- names of EQUs in the place of another definition
-
-equ_there : (o : Option Definition) → is_some (number_of o) ≡ true → (value : ℤ) × (o ≡ Some (definitions.Equ value))
-equ_there None h = absurd cc
-equ_there (Some (definitions.Storage capacity)) h = absurd cc
-equ_there (Some (definitions.Equ value)) h = (value, refl)
-equ_there (Some (definitions.Variable expression)) h = absurd cc
-equ_there (Some (definitions.Function f)) h = absurd cc
-
-other_verb : (class : Class) → definition_verb class ≢ equ
-other_verb class.V e = cc
-other_verb class.Fn e = cc
-other_verb class e = cc
 
 abbrev is_number : Listing → List ℕ → Bool
 is_number t name = is_some (number_of (definition t.lines name))
@@ -410,27 +367,41 @@ NamesEqu t term =
     (verb : Verb) × (name : List ℕ) × (value : ℤ) × NamesDefinition term verb (Some name) × (verb ≢ equ)
     × (definition t.lines name ≡ Some (definitions.Equ value))
 
-equ_of : (t : Listing) (term : Term) (class : Class) (of : Subject) → HasAtom term (atoms.Attribute class of)
-    → is_of_definition class ≡ true → has_name (is_number t) of ≡ true → NamesEqu t term
-equ_of t term class subjects.Own has is h = absurd cc
-equ_of t term class (subjects.Number n) has is h = absurd cc
-equ_of t term class (subjects.Name name) has is h =
-    let there = equ_there (definition t.lines name) h in
-    (definition_verb class, name, there.0, asks_of term class (subjects.Name name) has is, other_verb class, there.1)
+apart_from_equ : (verb : DefinitionVerb) → verb ≢ definition_verbs.Equ → verbs.Definition verb ≢ equ
+apart_from_equ verb other e = other cc
+
+equ_of : (t : Listing) (term : Term) (class : Class) (of : Subject) (verb : DefinitionVerb) → HasAtom term (atoms.Attribute class of)
+    → wanted_verb class ≡ Some verb → has_name (is_number t) of ≡ true → NamesEqu t term
+equ_of t term class subjects.Own verb has is h = absurd cc
+equ_of t term class (subjects.Number n) verb has is h = absurd cc
+equ_of t term class (subjects.Name name) verb has is h =
+    let there = equ_is (definition t.lines name) h in (
+      verbs.Definition verb,
+      name,
+      there.0,
+      asks_of term class (subjects.Name name) verb has is,
+      apart_from_equ verb (other_than_equ class verb is),
+      there.1,
+    )
 
 value_of_equ : (t : Listing) (term : Term) → holds_of_atom (is_of_equ (definition t.lines)) term ≡ true → NamesEqu t term
 value_of_equ t term h = let f = atom_found (is_of_equ (definition t.lines)) term h in go f.0 f.1 f.2 where
   go : (atom : Atom) → HasAtom term atom → is_of_equ (definition t.lines) atom ≡ true → NamesEqu t term
   go (atoms.Constant value) has e = absurd cc
   go (atoms.Number name) has e = absurd cc
-  go (atoms.Attribute class of) has e =
-      let parts = and_parts (is_of_definition class) (has_name (is_number t) of) e in
-      equ_of t term class of has parts.0 parts.1
+  go (atoms.Attribute class of) has e = by_verb (wanted_verb class) refl e where
+    by_verb : (wanted : Option DefinitionVerb) → wanted_verb class ≡ wanted → wants_equ (definition t.lines) wanted of ≡ true → NamesEqu t term
+    by_verb None is h = absurd cc
+    by_verb (Some verb) is h = equ_of t term class of verb has is h
 
 equ_found : (t : Listing) (term : Term) → is_equ_named (definition t.lines) term ≡ true → NamesEqu t term
 unfolding is_equ_named
 equ_found t (Defined name) h =
-    let there = equ_there (definition t.lines name) h in (storage, name, there.0, uses name, (λ e. cc), there.1)
+    let there = equ_is (definition t.lines name) h in
+    (verbs.Definition definition_verbs.Storage, name, there.0, uses name, (λ e. cc), there.1)
+equ_found t (Table name) h =
+    let there = equ_is (definition t.lines name) h in
+    (verbs.Definition definition_verbs.Table, name, there.0, tabulates name, (λ e. cc), there.1)
 equ_found t (Value a) h = value_of_equ t (Value a) h
 equ_found t (Computed ts) h = value_of_equ t (Computed ts) h
 equ_found t (Named name) h = absurd cc
@@ -444,14 +415,16 @@ equ_holds : (t : Listing) {term : Term} {verb : Verb} {there : Option (List ℕ)
 unfolding is_equ_named
 equ_holds t (uses name) n same other value e =
     ap (λ (x : List ℕ). is_number t x) (some_same name n same) ∙ ap (λ (o : Option Definition). is_some (number_of o)) e
+equ_holds t (tabulates name) n same other value e =
+    ap (λ (x : List ℕ). is_number t x) (some_same name n same) ∙ ap (λ (o : Option Definition). is_some (number_of o)) e
 equ_holds t (stands_for term name has) n same other value e = absurd (other refl)
-equ_holds t (asks_of term class (subjects.Name name) has is) n same other value e =
+equ_holds t (asks_of term class (subjects.Name name) verb has is) n same other value e =
     atom_holds (is_equ_named (definition t.lines)) (is_of_equ (definition t.lines)) (λ a. refl) (λ ts. refl) term
     (atoms.Attribute class (subjects.Name name)) has
-    (and_from (is_of_definition class) (is_number t name) is
-    (ap (λ (x : List ℕ). is_number t x) (some_same name n same) ∙ ap (λ (o : Option Definition). is_some (number_of o)) e))
-equ_holds t (asks_of term class subjects.Own has is) n same other value e = absurd cc
-equ_holds t (asks_of term class (subjects.Number m) has is) n same other value e = absurd cc
+    (ap (λ (v : Option DefinitionVerb). wants_equ (definition t.lines) v (subjects.Name name)) is
+    ∙ (ap (λ (x : List ℕ). is_number t x) (some_same name n same) ∙ ap (λ (o : Option Definition). is_some (number_of o)) e))
+equ_holds t (asks_of term class subjects.Own verb has is) n same other value e = absurd cc
+equ_holds t (asks_of term class (subjects.Number m) verb has is) n same other value e = absurd cc
 
 -- ---- each fault, and the first one
 

@@ -8,7 +8,7 @@ use Rattle.gw_meaning.specs.declared.statement.Body.{Body}
 use Rattle.gw_meaning.specs.declared.statement.Body.TheVariants as bodies
 use Rattle.gw_meaning.specs.declared.statement.Definition.{Definition}
 use Rattle.gw_meaning.specs.declared.statement.Numbered.{Numbered}
-use Rattle.gw_meaning.specs.Listing.{Listing, has_label, definition_of, definition_of_body, definition_if, defines, or_next, defined_in, first_said, units_of, number_of, number_in, expression_of, function_of, definition_at, capacity_at, number_at, variable_at, function_at}
+use Rattle.gw_meaning.specs.Listing.{Listing, has_label, definition_of, definition_of_body, definition_if, defines, or_next, defined_in, first_said, units_of, number_of, number_in, expression_of, function_of, argument_of, definition_at, capacity_at, number_at, variable_at, function_at, argument_at}
 use Rattle.gw_model.specs.Faults.{is_labelled, has_label_twice}
 use Rattle.gw_model.specs.Listed.{counted_label}
 use Rattle.gw_model.specs.Tables.{is_equ}
@@ -90,6 +90,9 @@ variable_once t name well = said_once name expression_of refl t.lines (labels_on
 
 pub function_once : (t : Listing) (name : List ℕ) → Well t → function_at t name ≡ function_of (definition_at t name)
 function_once t name well = said_once name function_of refl t.lines (labels_once t.lines well.labels_apart)
+
+pub argument_once : (t : Listing) (name : List ℕ) → Well t → argument_at t name ≡ argument_of (definition_at t name)
+argument_once t name well = said_once name argument_of refl t.lines (labels_once t.lines well.labels_apart)
 
 -- where no statement is an EQU, no name stands for a number
 pub is_none : {X : Type 0} (o : Option X) → is_some o ≡ false → o ≡ None

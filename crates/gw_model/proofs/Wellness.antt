@@ -10,7 +10,7 @@ use Rattle.gw_model.specs.declared.fault.ModelFault.{ModelFault}
 use Rattle.gw_model.specs.declared.fault.ModelFault.TheVariants.{TooMany, BadSeed, BadHorizon, LabelTwice, NoSuchLabel, NoSuchDefinition, EquNamedDefinition, Memory}
 use Rattle.gw_model.specs.Well.{Well, IsSeeded}
 use Rattle.gw_model.proofs.Apart.{none_of, none_from, numbers_apart, numbers_once, labels_apart, labels_once}
-use Rattle.gw_model.proofs.Known.{labels_there, counts_there, contents_there, variables_there, functions_there, labels_known, storages_there, numbers_there, definitions_known, none_equ_named}
+use Rattle.gw_model.proofs.Known.{labels_there, counts_there, labels_known, storages_there, tables_there, numbers_there, definitions_there, definitions_known, none_equ_named}
 
 -- a number in range
 inside : (least greatest n : ℕ) → is_outside least greatest n ≡ false → (least ≤ n) × (n ≤ greatest)
@@ -55,11 +55,10 @@ well_from t long bad limits twice unknown missing equ =
       labels_apart = labels_apart t.lines twice;
       labels_there = labels_there t.lines unknown;
       storages_there = storages_there t.lines missing equ;
+      tables_there = tables_there t.lines missing equ;
       numbers_there = numbers_there t.lines missing;
       counts_there = counts_there t.lines unknown;
-      contents_there = contents_there t.lines missing equ;
-      variables_there = variables_there t.lines missing equ;
-      functions_there = functions_there t.lines missing equ;
+      definitions_there = definitions_there t.lines missing equ;
     }
 
 -- the names of definitions without a fault
@@ -97,8 +96,8 @@ sound_from t w =
     let twice : has_label_twice t.lines ≡ false = labels_once t.lines w.labels_apart in
     let unknown : has_unknown_label t.lines ≡ false = labels_known t.lines w.labels_there w.counts_there in
     let missing : has_unknown_definition t.lines ≡ false =
-    definitions_known t.lines w.storages_there w.numbers_there w.contents_there w.variables_there w.functions_there in
-    let equ : has_equ_named t.lines ≡ false = none_equ_named t.lines w.storages_there w.contents_there w.variables_there w.functions_there in
+    definitions_known t.lines w.storages_there w.tables_there w.numbers_there w.definitions_there in
+    let equ : has_equ_named t.lines ≡ false = none_equ_named t.lines w.storages_there w.tables_there w.definitions_there in
     rw (twice, unknown, missing, equ)
 
 -- a version without a fault is well-formed, where its labels are looked at last

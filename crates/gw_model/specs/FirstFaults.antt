@@ -2,14 +2,14 @@
 -- (The faults, their order and the limits are the product's own.)
 use Rattle.std.specs.Prelude.{ℕ, ℤ, ◌<◌, ◌≡◌, ◌≢◌, ◌⊎◌, true, List, [], ◌∷◌, Option, Some, None, length, slice_get}
 use Rattle.gw_names.specs.declared.class.Class.{Class}
-use Rattle.gw_names.specs.declared.class.Class.TheVariants as class
+use Rattle.gw_names.specs.declared.verb.DefinitionVerb.{DefinitionVerb}
 use Rattle.gw_names.specs.declared.verb.DefinitionVerb.TheVariants as definition_verbs
 use Rattle.gw_names.specs.declared.verb.Verb.{Verb}
 use Rattle.gw_names.specs.declared.verb.Verb.TheVariants as verbs
 use Rattle.gw_expr.specs.declared.atom.Atom.TheVariants as atoms
 use Rattle.gw_expr.specs.declared.attribute.Subject.{Subject}
 use Rattle.gw_expr.specs.declared.attribute.Subject.TheVariants as subjects
-use Rattle.gw_expr.specs.Term.{Term, Defined, Label, HasAtom}
+use Rattle.gw_expr.specs.Term.{Term, Defined, Table, Label, HasAtom}
 use Rattle.gw_meaning.specs.Listing.{Listing, operand_of, definition_at, label_at}
 use Rattle.gw_meaning.specs.Statements.{verb_of_definition}
 use Rattle.gw_meaning.specs.declared.statement.Definition.{Definition}
@@ -19,9 +19,9 @@ use Rattle.gw_meaning.specs.declared.statement.Replication.{Replication}
 use Rattle.gw_model.specs.declared.fault.ModelFault.{ModelFault}
 use Rattle.gw_model.specs.declared.fault.ModelFault.TheVariants.{TooMany, BadSeed, BadHorizon, LabelTwice, NoSuchLabel, NoSuchDefinition, EquNamedDefinition}
 use Rattle.gw_model.specs.Listed.{counted_label}
-use Rattle.gw_model.specs.Faults.{fault_of, is_of_block, is_of_definition}
+use Rattle.gw_model.specs.Faults.{fault_of, is_of_block, wanted_verb}
 
--- an operand of a block, the expression of a VARIABLE, or the argument of a FUNCTION
+-- an operand of a block, the expression of a VARIABLE, or the argument of a FUNCTION or of a TABLE
 pub record HasOperand (t : Listing) (term : Term) : Type 0 where
   pub index : ℕ
   pub place : ℕ
@@ -38,12 +38,6 @@ abbrev pub name_in : Subject → Option (List ℕ)
 name_in (subjects.Name name) = Some name
 name_in of = None
 
--- the verb of the definitions that the attributes of a class are of
-abbrev pub definition_verb : Class → Verb
-definition_verb class.V = verbs.Definition definition_verbs.Variable
-definition_verb class.Fn = verbs.Definition definition_verbs.Function
-definition_verb class = verbs.Definition definition_verbs.Storage
-
 -- an operand that is a label, or counts the block with a label: its name, where it has one
 pub data NamesLabel : Term → Option (List ℕ) → Type 0 where
   goes_to : (name : List ℕ) → NamesLabel (Label name) (Some name)
@@ -55,13 +49,16 @@ abbrev pub IsNoLabel : Listing → Option (List ℕ) → Type 0
 IsNoLabel t None = Unit {0}
 IsNoLabel t (Some name) = label_at t name ≡ None
 
--- an operand with a name that needs a definition with this verb: a storage, a number, or what an attribute is of
+-- an operand with a name that needs a definition with this verb: a storage, a TABLE, a number, or what an attribute is
+-- of
 pub data NamesDefinition : Term → Verb → Option (List ℕ) → Type 0 where
   uses : (name : List ℕ) → NamesDefinition (Defined name) (verbs.Definition definition_verbs.Storage) (Some name)
+  tabulates : (name : List ℕ) → NamesDefinition (Table name) (verbs.Definition definition_verbs.Table) (Some name)
   stands_for : (term : Term) (name : List ℕ) → HasAtom term (atoms.Number name)
       → NamesDefinition term (verbs.Definition definition_verbs.Equ) (Some name)
-  asks_of : (term : Term) (class : Class) (of : Subject) → HasAtom term (atoms.Attribute class of)
-      → is_of_definition class ≡ true → NamesDefinition term (definition_verb class) (name_in of)
+  asks_of : (term : Term) (class : Class) (of : Subject) (verb : DefinitionVerb)
+      → HasAtom term (atoms.Attribute class of) → wanted_verb class ≡ Some verb
+      → NamesDefinition term (verbs.Definition verb) (name_in of)
 
 -- a definition is none with this verb, and no EQU in the place of one
 abbrev pub IsNeither : Verb → Option Definition → Type 0

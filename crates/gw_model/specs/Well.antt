@@ -1,15 +1,18 @@
 -- What a version may be, in the subject's own words. (Our own limits.)
 use Rattle.std.specs.Prelude.{ℕ, ℤ, ◌≤◌, ◌<◌, ◌≡◌, ◌≢◌, true, List, Some, length, slice_get}
-use Rattle.gw_expr.specs.Term.{Term, Defined, Label, HasAtom}
+use Rattle.gw_expr.specs.Term.{Term, Defined, Table, Label, HasAtom}
 use Rattle.gw_expr.specs.declared.atom.Atom.TheVariants as atoms
 use Rattle.gw_names.specs.declared.class.Class.{Class}
-use Rattle.gw_names.specs.declared.class.Class.TheVariants as class
+use Rattle.gw_names.specs.declared.verb.DefinitionVerb.{DefinitionVerb}
+use Rattle.gw_names.specs.declared.verb.DefinitionVerb.TheVariants as definition_verbs
+use Rattle.gw_names.specs.declared.verb.Verb.TheVariants as verbs
 use Rattle.gw_expr.specs.declared.attribute.Subject.{Subject}
 use Rattle.gw_expr.specs.declared.attribute.Subject.TheVariants as subjects
-use Rattle.gw_meaning.specs.Listing.{Listing, operand_of, definition_at, label_at}
+use Rattle.gw_meaning.specs.Listing.{Listing, operand_of, defined_in, definition_at, label_at}
 use Rattle.gw_model.specs.Listed.{counted_label}
-use Rattle.gw_model.specs.Faults.{is_of_block, is_of_storage}
-use Rattle.gw_expr.specs.declared.function.Function.{Function}
+use Rattle.gw_model.specs.Faults.{is_of_block, wanted_verb}
+use Rattle.gw_meaning.specs.Statements.{verb_of_definition}
+use Rattle.gw_meaning.specs.declared.statement.Definition.{Definition}
 use Rattle.gw_meaning.specs.declared.statement.Definition.TheVariants as definitions
 use Rattle.gw_meaning.specs.declared.statement.Numbered.{Numbered}
 use Rattle.gw_meaning.specs.declared.statement.Replication.{Replication}
@@ -20,6 +23,11 @@ pub record IsSeeded (r : Replication) : Type 0 where
   pub greatest_seed : r.seed ≤ 2147483646
   pub least_number : 1 ≤ r.number
   pub greatest_number : r.number ≤ 1000000000
+
+-- a name is defined with a verb
+abbrev pub IsDefined : List Numbered → List ℕ → DefinitionVerb → Type 0
+IsDefined lines name verb = (definition : Definition) × (defined_in name lines ≡ Some definition) ×
+    (verb_of_definition definition ≡ verbs.Definition verb)
 
 -- a version that may be run
 pub record Well (t : Listing) : Type 0 where
@@ -38,7 +46,10 @@ pub record Well (t : Listing) : Type 0 where
       operand_of line place ≡ Some (Label name) → (id : ℕ) × (label_at t name ≡ Some id)
   pub storages_there : (i place : ℕ) (line : Numbered) (name : List ℕ) →
       slice_get t.lines i ≡ Some line → operand_of line place ≡ Some (Defined name) →
-      (capacity : ℕ) × (definition_at t name ≡ Some (definitions.Storage capacity))
+      IsDefined t.lines name definition_verbs.Storage
+  pub tables_there : (i place : ℕ) (line : Numbered) (name : List ℕ) →
+      slice_get t.lines i ≡ Some line → operand_of line place ≡ Some (Table name) →
+      IsDefined t.lines name definition_verbs.Table
   pub numbers_there : (i place : ℕ) (line : Numbered) (term : Term) (name : List ℕ) →
       slice_get t.lines i ≡ Some line → operand_of line place ≡ Some term →
       HasAtom term (atoms.Number name) → (value : ℤ) × (definition_at t name ≡ Some (definitions.Equ value))
@@ -47,21 +58,8 @@ pub record Well (t : Listing) : Type 0 where
       slice_get t.lines i ≡ Some line → operand_of line place ≡ Some term →
       HasAtom term (atoms.Attribute class of) → is_of_block class ≡ true →
       (name : List ℕ) × (of ≡ subjects.Name name) × (id : ℕ) × (label_at t name ≡ Some id)
-  pub contents_there :
-      (i place : ℕ) (line : Numbered) (term : Term) (class : Class) (of : Subject) →
+  pub definitions_there :
+      (i place : ℕ) (line : Numbered) (term : Term) (class : Class) (of : Subject) (verb : DefinitionVerb) →
       slice_get t.lines i ≡ Some line → operand_of line place ≡ Some term →
-      HasAtom term (atoms.Attribute class of) → is_of_storage class ≡ true →
-      (name : List ℕ) × (of ≡ subjects.Name name) × (capacity : ℕ) ×
-      (definition_at t name ≡ Some (definitions.Storage capacity))
-  pub variables_there :
-      (i place : ℕ) (line : Numbered) (term : Term) (of : Subject) →
-      slice_get t.lines i ≡ Some line → operand_of line place ≡ Some term →
-      HasAtom term (atoms.Attribute class.V of) →
-      (name : List ℕ) × (of ≡ subjects.Name name) × (expression : Term) ×
-      (definition_at t name ≡ Some (definitions.Variable expression))
-  pub functions_there :
-      (i place : ℕ) (line : Numbered) (term : Term) (of : Subject) →
-      slice_get t.lines i ≡ Some line → operand_of line place ≡ Some term →
-      HasAtom term (atoms.Attribute class.Fn of) →
-      (name : List ℕ) × (of ≡ subjects.Name name) × (function : Function) ×
-      (definition_at t name ≡ Some (definitions.Function function))
+      HasAtom term (atoms.Attribute class of) → wanted_verb class ≡ Some verb →
+      (name : List ℕ) × (of ≡ subjects.Name name) × IsDefined t.lines name verb

@@ -5,15 +5,15 @@ ghost use Rattle.std.specs.Cmp.Lexicographic.{slice_cmp};
 ghost use Rattle.gw_meaning.specs.Listing.{defined_in, number_of, operands_of_definition};
 ghost use Rattle.std.specs.List.{list_any};
 ghost use Rattle.gw_expr.specs.Term.{holds_of_token};
-ghost use Rattle.gw_model.specs.Faults.{has_no_value, is_of_equ, has_unknown_definition, has_equ_named, holds_in, holds_of, is_undefined, is_equ_named, is_of_storage, is_of_definition, is_storage_or_equ, is_variable_or_equ, is_function_or_equ, is_wanted_or_equ, lacks_name, has_name};
+ghost use Rattle.gw_model.specs.Faults.{has_no_value, is_of_equ, has_unknown_definition, has_equ_named, holds_in, holds_of, is_undefined, is_equ_named, wanted_verb, has_verb, has_verb_or_equ, lacks_definition, wants_equ, lacks_name, has_name};
 
-use gw_expr::{Atom, Expr, Node, Subject, Token, is_of_function};
+use gw_expr::{Atom, Expr, Node, Subject, Token};
 use gw_meaning::{Body, Definition, Numbered};
-use gw_names::{Class, Name};
+use gw_names::{Class, DefinitionVerb, Name};
 use std::collections::BTreeMap;
 
-/// Whether an operand of a block, the expression of a VARIABLE or the argument of a FUNCTION has a name without the
-/// definition that it needs.
+/// Whether an operand of a block, the expression of a VARIABLE or the argument of a FUNCTION or of a TABLE has a name
+/// without the definition that it needs.
 #[tactic(auto, unfolding(crate::specs::Faults::has_unknown_definition))]
 pub fn has_unknown_definition(lines: &[Numbered], definitions: &BTreeMap<Name, Definition>) -> bool
     requires { (name : List ℕ) → tree.get (slice_cmp nat_cmp) definitions.now name ≡ defined_in name lines.now }
@@ -22,8 +22,8 @@ pub fn has_unknown_definition(lines: &[Numbered], definitions: &BTreeMap<Name, D
     lines.iter().any(|line| names_undefined(definitions, line))
 }
 
-/// Whether an operand of a block, the expression of a VARIABLE or the argument of a FUNCTION has the name of a storage,
-/// of a VARIABLE or of a FUNCTION that is an EQU's.
+/// Whether an operand of a block, the expression of a VARIABLE or the argument of a FUNCTION or of a TABLE has the name
+/// of a storage, of a TABLE, of a VARIABLE or of a FUNCTION that is an EQU's.
 #[tactic(auto, unfolding(crate::specs::Faults::has_equ_named))]
 pub fn has_equ_named(lines: &[Numbered], definitions: &BTreeMap<Name, Definition>) -> bool
     requires { (name : List ℕ) → tree.get (slice_cmp nat_cmp) definitions.now name ≡ defined_in name lines.now }
@@ -69,6 +69,7 @@ fn is_undefined_in(definitions: &BTreeMap<Name, Definition>, definition: &Defini
     match definition {
         Definition::Variable { expression } => is_undefined(definitions, expression),
         Definition::Function(function) => is_undefined(definitions, &function.argument),
+        Definition::Table(table) => is_undefined(definitions, &table.argument),
         Definition::Storage { .. } | Definition::Equ { .. } => false,
     }
 }
@@ -89,7 +90,8 @@ fn is_undefined(definitions: &BTreeMap<Name, Definition>, expr: &Expr) -> bool
         is_undefined (λ name. tree.get (slice_cmp nat_cmp) definitions.now name) expr.now }
 {
     match expr.node() {
-        Node::Defined(name) => is_no_storage(definitions, name.name()),
+        Node::Defined(name) => lacks_verb(definitions, DefinitionVerb::Storage, name.name()),
+        Node::Table(name) => lacks_verb(definitions, DefinitionVerb::Table, name),
         Node::Value(atom) => has_no_value(definitions, atom),
         Node::Computed(tokens) => any_lacks_a_value(definitions, tokens),
         Node::Named(_) | Node::Label(_) | Node::Fraction(_) | Node::Order(_) => false,
@@ -120,9 +122,7 @@ fn has_no_value(definitions: &BTreeMap<Name, Definition>, atom: &Atom) -> bool
     match atom {
         Atom::Constant(_) => false,
         Atom::Number(name) => !is_equ(definitions, name),
-        Atom::Attribute(class, of) => {
-            is_of_definition(*class) && lacks_definition(definitions, *class, of)
-        }
+        Atom::Attribute(class, of) => lacks_definition(definitions, wanted_verb(*class), of),
     }
 }
 
@@ -133,6 +133,7 @@ fn is_equ_named_in(definitions: &BTreeMap<Name, Definition>, definition: &Defini
     match definition {
         Definition::Variable { expression } => is_equ_named(definitions, expression),
         Definition::Function(function) => is_equ_named(definitions, &function.argument),
+        Definition::Table(table) => is_equ_named(definitions, &table.argument),
         Definition::Storage { .. } | Definition::Equ { .. } => false,
     }
 }
@@ -154,6 +155,7 @@ fn is_equ_named(definitions: &BTreeMap<Name, Definition>, expr: &Expr) -> bool
 {
     match expr.node() {
         Node::Defined(name) => is_equ(definitions, name.name()),
+        Node::Table(name) => is_equ(definitions, name),
         Node::Value(atom) => is_of_equ(definitions, atom),
         Node::Computed(tokens) => any_is_of_equ(definitions, tokens),
         Node::Named(_) | Node::Label(_) | Node::Fraction(_) | Node::Order(_) => false,
@@ -181,7 +183,7 @@ fn is_of_equ(definitions: &BTreeMap<Name, Definition>, atom: &Atom) -> bool
     ensures { result ≡ is_of_equ (λ name. tree.get (slice_cmp nat_cmp) definitions.now name) atom.now }
 {
     match atom {
-        Atom::Attribute(class, of) => is_of_definition(*class) && has_equ(definitions, of),
+        Atom::Attribute(class, of) => wants_equ(definitions, wanted_verb(*class), of),
         Atom::Constant(_) | Atom::Number(_) => false,
     }
 }
@@ -192,93 +194,94 @@ fn is_equ(definitions: &BTreeMap<Name, Definition>, name: &Name) -> bool
 {
     match definitions.get(name) {
         Some(Definition::Equ { .. }) => true,
-        Some(Definition::Storage { .. } | Definition::Variable { .. } | Definition::Function(_))
-        | None => false,
-    }
-}
-
-// Whether a name is that of no storage, and of no EQU in the place of one.
-fn is_no_storage(definitions: &BTreeMap<Name, Definition>, name: &Name) -> bool
-    ensures { result ≡ not (is_storage_or_equ (tree.get (slice_cmp nat_cmp) definitions.now name.now)) }
-{
-    !is_storage_or_equ(definitions.get(name))
-}
-
-// Whether a definition is a storage, or an EQU in the place of one.
-fn is_storage_or_equ(definition: Option<&Definition>) -> bool
-    ensures { result ≡ is_storage_or_equ (option_copied definition.entry) }
-{
-    match definition {
-        Some(Definition::Storage { .. } | Definition::Equ { .. }) => true,
-        Some(Definition::Variable { .. } | Definition::Function(_)) | None => false,
-    }
-}
-
-// Whether a definition is a VARIABLE, or an EQU in the place of one.
-fn is_variable_or_equ(definition: Option<&Definition>) -> bool
-    ensures { result ≡ is_variable_or_equ (option_copied definition.entry) }
-{
-    match definition {
-        Some(Definition::Variable { .. } | Definition::Equ { .. }) => true,
-        Some(Definition::Storage { .. } | Definition::Function(_)) | None => false,
-    }
-}
-
-// Whether a definition is a FUNCTION, or an EQU in the place of one.
-fn is_function_or_equ(definition: Option<&Definition>) -> bool
-    ensures { result ≡ is_function_or_equ (option_copied definition.entry) }
-{
-    match definition {
-        Some(Definition::Function(_) | Definition::Equ { .. }) => true,
-        Some(Definition::Storage { .. } | Definition::Variable { .. }) | None => false,
-    }
-}
-
-// Whether a definition is what an attribute of a class is of, or an EQU.
-fn is_wanted_or_equ(class: Class, definition: Option<&Definition>) -> bool
-    ensures { result ≡ is_wanted_or_equ class (option_copied definition.entry) }
-{
-    if is_of_storage(class) {
-        is_storage_or_equ(definition)
-    } else if is_of_function(class) {
-        is_function_or_equ(definition)
-    } else {
-        is_variable_or_equ(definition)
-    }
-}
-
-// Whether the attributes of a class are of a storage.
-fn is_of_storage(class: Class) -> bool
-    ensures { result ≡ is_of_storage class }
-{
-    match class {
-        Class::S | Class::R | Class::Sc | Class::Sm => true,
         _ => false,
     }
 }
 
-// Whether the attributes of a class are of a storage, of a VARIABLE or of a FUNCTION.
-fn is_of_definition(class: Class) -> bool
-    ensures { result ≡ is_of_definition class }
+// Whether a name has neither a definition with the verb nor an EQU in its place.
+fn lacks_verb(definitions: &BTreeMap<Name, Definition>, verb: DefinitionVerb, name: &Name) -> bool
+    ensures { result ≡ not (has_verb_or_equ verb (tree.get (slice_cmp nat_cmp) definitions.now name.now)) }
 {
-    match class {
-        Class::V | Class::Fn => true,
-        _ => is_of_storage(class),
+    !has_verb_or_equ(verb, definitions.get(name))
+}
+
+// Whether there is a definition that has the verb, or an EQU in its place.
+fn has_verb_or_equ(verb: DefinitionVerb, definition: Option<&Definition>) -> bool
+    ensures { result ≡ has_verb_or_equ verb (option_copied definition.entry) }
+{
+    match definition {
+        Some(definition) => {
+            has_verb(verb, definition) || has_verb(DefinitionVerb::Equ, definition)
+        }
+        None => false,
     }
 }
 
-// Whether what an attribute is of has no name with a definition of its kind, or with an EQU.
-fn lacks_definition(definitions: &BTreeMap<Name, Definition>, class: Class, of: &Subject) -> bool
+fn has_verb(verb: DefinitionVerb, definition: &Definition) -> bool
+    ensures { result ≡ has_verb verb definition.now }
+{
+    match (verb, definition) {
+        (DefinitionVerb::Storage, Definition::Storage { .. }) => true,
+        (DefinitionVerb::Equ, Definition::Equ { .. }) => true,
+        (DefinitionVerb::Variable, Definition::Variable { .. }) => true,
+        (DefinitionVerb::Function, Definition::Function(_)) => true,
+        (DefinitionVerb::Table, Definition::Table(_)) => true,
+        _ => false,
+    }
+}
+
+// The verb of the definitions that the attributes of a class are of, if they are of definitions.
+fn wanted_verb(class: Class) -> Option<DefinitionVerb>
+    ensures { result ≡ wanted_verb class }
+{
+    match class {
+        Class::S | Class::R | Class::Sc | Class::Sm => Some(DefinitionVerb::Storage),
+        Class::Tc => Some(DefinitionVerb::Table),
+        Class::V => Some(DefinitionVerb::Variable),
+        Class::Fn => Some(DefinitionVerb::Function),
+        _ => None,
+    }
+}
+
+// Whether what an attribute is of has no name with a definition of this verb, or with an EQU.
+fn lacks_definition(
+    definitions: &BTreeMap<Name, Definition>,
+    verb: Option<DefinitionVerb>,
+    of: &Subject,
+) -> bool
+    ensures { result ≡
+        lacks_definition (λ name. tree.get (slice_cmp nat_cmp) definitions.now name) verb of.now }
+{
+    match verb {
+        Some(verb) => lacks_name(definitions, verb, of),
+        None => false,
+    }
+}
+
+fn lacks_name(definitions: &BTreeMap<Name, Definition>, verb: DefinitionVerb, of: &Subject) -> bool
     ensures { result ≡ lacks_name
-        (λ name. is_wanted_or_equ class (tree.get (slice_cmp nat_cmp) definitions.now name)) of.now }
+        (λ name. has_verb_or_equ verb (tree.get (slice_cmp nat_cmp) definitions.now name)) of.now }
 {
     match of {
-        Subject::Name(name) => !is_wanted_or_equ(class, definitions.get(name)),
+        Subject::Name(name) => lacks_verb(definitions, verb, name),
         Subject::Own | Subject::Number(_) => true,
     }
 }
 
-// Whether what an attribute is of has a name that is an EQU's.
+// Whether what an attribute is of has a name that is an EQU's, in the place of a definition of this verb.
+fn wants_equ(
+    definitions: &BTreeMap<Name, Definition>,
+    verb: Option<DefinitionVerb>,
+    of: &Subject,
+) -> bool
+    ensures { result ≡ wants_equ (λ name. tree.get (slice_cmp nat_cmp) definitions.now name) verb of.now }
+{
+    match verb {
+        Some(_) => has_equ(definitions, of),
+        None => false,
+    }
+}
+
 fn has_equ(definitions: &BTreeMap<Name, Definition>, of: &Subject) -> bool
     ensures { result ≡
         has_name (λ name. is_some (number_of (tree.get (slice_cmp nat_cmp) definitions.now name))) of.now }

@@ -12,7 +12,8 @@ use gw_meaning::{Body, Definition, Numbered, StatementId};
 use gw_names::{Class, Name};
 use std::collections::BTreeMap;
 
-/// Whether an operand of a block, the expression of a VARIABLE or the argument of a FUNCTION has the label of no block.
+/// Whether an operand of a block, the expression of a VARIABLE or the argument of a FUNCTION or of a TABLE has the
+/// label of no block.
 #[tactic(auto, unfolding(crate::specs::Faults::has_unknown_label))]
 pub fn has_unknown_label(lines: &[Numbered], labels: &BTreeMap<Name, StatementId>) -> bool
     requires { (name : List ℕ) → tree.get (slice_cmp nat_cmp) labels.now name ≡ labelled_in name lines.now }
@@ -44,6 +45,7 @@ fn is_unknown_in(labels: &BTreeMap<Name, StatementId>, definition: &Definition) 
     match definition {
         Definition::Variable { expression } => is_unknown(labels, expression),
         Definition::Function(function) => is_unknown(labels, &function.argument),
+        Definition::Table(table) => is_unknown(labels, &table.argument),
         Definition::Storage { .. } | Definition::Equ { .. } => false,
     }
 }
@@ -67,7 +69,8 @@ fn is_unknown(labels: &BTreeMap<Name, StatementId>, expr: &Expr) -> bool
         Node::Label(name) => labels.get(name).is_none(),
         Node::Value(atom) => counts_unknown(labels, atom),
         Node::Computed(tokens) => any_unknown(labels, tokens),
-        Node::Named(_) | Node::Fraction(_) | Node::Defined(_) | Node::Order(_) => false,
+        Node::Named(_) | Node::Fraction(_) => false,
+        Node::Defined(_) | Node::Table(_) | Node::Order(_) => false,
     }
 }
 

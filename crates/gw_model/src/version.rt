@@ -1,5 +1,5 @@
 ghost use Rattle.std.specs.Prelude.{◌≡◌, ◌≤◌, IfOk, OnOk, IfErr, IfSome, IsTrue, Some, None, option_copied, length, nat_le, if◌then◌else◌};
-ghost use Rattle.gw_meaning.specs.Listing.{block_at, after_at, position_at, label_at, command_at, definition_at, capacity_at, number_at, generates_in, statement_at, starts, replication_at, seed_at};
+ghost use Rattle.gw_meaning.specs.Listing.{block_at, after_at, position_at, label_at, command_at, definition_at, capacity_at, number_at, argument_at, generates_in, statement_at, starts, replication_at, seed_at};
 
 use crate::fault::ModelFault;
 use crate::lines::{number, spliced};
@@ -239,6 +239,17 @@ impl Version {
         match self.tabled.tables.definitions.get(name) {
             Some(Definition::Storage { capacity }) => *capacity,
             _ => 0,
+        }
+    }
+
+    /// What a TABULATE of this name evaluates, where it is a TABLE's.
+    #[tactic(auto, using(crate::proofs::Once::argument_once))]
+    pub fn argument(&self, name: &Name) -> Option<&Expr>
+        ensures { option_copied result ≡ argument_at self.now name.now }
+    {
+        match self.tabled.tables.definitions.get(name) {
+            Some(Definition::Table(table)) => Some(&table.argument),
+            _ => None,
         }
     }
 

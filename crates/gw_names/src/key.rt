@@ -10,7 +10,7 @@ use std::hash::{Hash, Hasher};
 pub enum Key {
     Num(u32),
     Named(Name),
-    /// A storage: no facility or queue has its key, also where it has the same name.
+    /// A storage or a table: no facility or queue has its key, also where it has the same name.
     Defined(Name),
 }
 

@@ -1,3 +1,4 @@
 pub mod Millionths
 pub mod Range
 pub mod Ratio
+pub mod Roots

@@ -3,17 +3,19 @@
 //! A [`Val`] lies in -1,000,000,000 to 1,000,000,000, a [`Time`] in 0 to 1,001,000,000,000 and a [`Clock`] in 0 to
 //! 1,000,000,000,000, by their types; [`Millionths`] are a number with six decimals.
 //! Arithmetic is exact or refused, a number is written as its decimal digits and nothing else, and a quotient in
-//! [`thousandths`] is cut off.
+//! [`thousandths`] and a [`whole_root`] are cut off.
 #![tactic(auto)]
 
 mod decimal;
 mod millionths;
 mod ratio;
+mod root;
 mod time;
 mod val;
 
 pub use decimal::put_decimal;
 pub use millionths::{Millionths, times};
 pub use ratio::thousandths;
+pub use root::whole_root;
 pub use time::{Clock, LAST_CLOCK, LAST_TIME, Time};
 pub use val::{ArithmeticFault, GREATEST, Val, add, div, mul, rem, sub};

@@ -29,6 +29,7 @@ pub record Stock : Type 0 where
   pub storages : List (Key × Store)
   pub savevalues : List (Key × ℤ)
   pub switches : List (Key × Bool)
+  pub tables : List (Key × List ℤ)
   pub comings : Arrivals
 
 abbrev pub entities_of : Stock → Entities
@@ -39,5 +40,6 @@ entities_of e =
       storages = e.storages;
       savevalues = e.savevalues;
       switches = e.switches;
+      tables = e.tables;
       comings = e.comings.comings;
     }

@@ -51,4 +51,11 @@ impl Clocks {
     {
         self.clock = clock;
     }
+
+    /// The relative clock begins anew.
+    pub fn reset(&mut self)
+        ensures { self.new ≡ record self.old { since = self.old.clock } }
+    {
+        self.since = self.clock;
+    }
 }

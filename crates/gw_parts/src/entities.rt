@@ -2,11 +2,11 @@
 ghost use Rattle.std.specs.Prelude.{◌≡◌, IfOk, OnOk, OnErr};
 ghost use Rattle.gw_entities.specs.Comings.{came};
 ghost use Rattle.gw_meaning.specs.declared.entity_change.Deed.TheVariants as deeds;
-ghost use Rattle.gw_meaning.specs.Entities.{no_entities, facility_at, line_at, store_at, savevalue_at, switch_at, done, later};
+ghost use Rattle.gw_meaning.specs.Entities.{no_entities, facility_at, line_at, store_at, savevalue_at, switch_at, done, entities_anew, later};
 ghost use Rattle.gw_parts.specs.Parts.{entities_of};
 
 use crate::deeds::{done_to_facility, done_to_queue, done_to_storage};
-use gw_entities::{ByKey, Comings, Facility, Queue, Storage};
+use gw_entities::{ByKey, Comings, Facility, Queue, Storage, Tables};
 use gw_meaning::{Deed, QueueDeed};
 use gw_names::Key;
 use gw_nums::{Clock, Val};
@@ -21,6 +21,7 @@ pub struct Entities {
     storages: ByKey<Storage>,
     savevalues: ByKey<Val>,
     switches: ByKey<bool>,
+    tables: Tables,
     comings: Comings,
 }
 
@@ -35,6 +36,7 @@ impl Model for Entities {
       storages = e.storages;
       savevalues = e.savevalues;
       switches = e.switches;
+      tables = e.tables;
       comings = e.comings;
     } };
 }
@@ -50,6 +52,7 @@ impl Entities {
             storages: ByKey::new(alloc),
             savevalues: ByKey::new(alloc),
             switches: ByKey::new(alloc),
+            tables: Tables::new(alloc),
             comings: Comings::new(alloc),
         }
     }
@@ -73,6 +76,13 @@ impl Entities {
         ensures { result.now ≡ self.now.storages }
     {
         &self.storages
+    }
+
+    /// The tables that were touched.
+    pub fn tables(&self) -> &Tables
+        ensures { result.now ≡ self.now.tables }
+    {
+        &self.tables
     }
 
     /// A facility, which is free where nothing touched it yet.
@@ -157,6 +167,7 @@ impl Entities {
             }
             Deed::Savevalue { to } => self.savevalues.put(key, *to),
             Deed::Switch { set } => self.switches.put(key, *set),
+            Deed::Table { value } => self.tables.add(key, *value),
         }
     }
 
@@ -184,6 +195,23 @@ impl Entities {
         }
     }
 
+    /// Each facility, queue and storage is counted anew from a clock on, and each table loses its values. Where memory is
+    /// refused, nothing changes.
+    pub fn count_anew(&mut self, alloc: Global, clock: Clock) -> Result<(), AllocError>
+        ensures ok { OnOk result (entities_of self.new ≡ entities_anew clock (entities_of self.old)) }
+        ensures err { OnErr result (entities_of self.new ≡ entities_of self.old) }
+    {
+        let facilities = self.facilities.anew(alloc, clock)?;
+        let queues = self.queues.anew(alloc, clock)?;
+        let storages = self.storages.anew(alloc, clock)?;
+        let tables = self.tables.anew()?;
+        self.facilities = facilities;
+        self.queues = queues;
+        self.storages = storages;
+        self.tables = tables;
+        Ok(())
+    }
+
     /// The clock goes on from one time to another. Where they differ, who came to which queue is forgotten.
     pub fn go_on(&mut self, before: Clock, now: Clock)
         ensures { entities_of self.new ≡ later before now (entities_of self.old) }
@@ -205,6 +233,7 @@ impl Entities {
         self.storages.share()?;
         self.savevalues.share()?;
         self.switches.share()?;
+        self.tables.share()?;
         self.comings.share()
     }
 
@@ -221,6 +250,7 @@ impl Entities {
             storages: used.storages,
             savevalues: set.savevalues,
             switches: set.switches,
+            tables: set.tables,
             comings: set.comings,
         })
     }
@@ -242,13 +272,16 @@ impl Entities {
     fn copy_set(&self) -> Result<Set, AllocError>
         ensures savevalues { IfOk result (λ s. s.savevalues ≡ self.now.savevalues) }
         ensures switches { IfOk result (λ s. s.switches ≡ self.now.switches) }
+        ensures tables { IfOk result (λ s. s.tables ≡ self.now.tables) }
         ensures comings { IfOk result (λ s. s.comings.comings ≡ self.now.comings.comings) }
     {
         let savevalues = self.savevalues.copy()?;
         let switches = self.switches.copy()?;
+        let tables = self.tables.copy()?;
         Ok(Set {
             savevalues,
             switches,
+            tables,
             comings: self.comings.copy()?,
         })
     }
@@ -262,10 +295,11 @@ struct Used {
     storages: ByKey<Storage>,
 }
 
-// What blocks set, and who came.
+// What blocks set and tabulated, and who came.
 #[derive(Drop)]
 struct Set {
     savevalues: ByKey<Val>,
     switches: ByKey<bool>,
+    tables: Tables,
     comings: Comings,
 }

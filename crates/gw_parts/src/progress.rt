@@ -105,4 +105,12 @@ impl Progress {
         }
         self.remaining = self.remaining.saturating_sub(count);
     }
+
+    /// No START is under way, and the next one primes the GENERATEs.
+    pub fn clear(&mut self)
+        ensures { self.new ≡ record self.old { remaining = 0; primed = false } }
+    {
+        self.remaining = 0;
+        self.primed = false;
+    }
 }

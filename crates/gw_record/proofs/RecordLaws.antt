@@ -227,6 +227,8 @@ complete_changed changes.Nothing s n h = h
 pub complete_moved : (s : Machine) (m : Move) → (moved s m).complete ≤ s.complete + 1
 complete_moved s (moves.Start count arrivals) = omega arith
 complete_moved s moves.Command = omega arith
+complete_moved s moves.Reset = omega arith
+complete_moved s moves.Clear = omega arith
 complete_moved s (moves.Enter id change fate) =
     complete_active s s.active _ (λ x. complete_changed change _ s.complete (complete_fated fate _ _))
 complete_moved s (moves.Refuse id key units) = complete_active s s.active _ (λ x. omega arith)

@@ -4,3 +4,7 @@ pub mod Sections
 pub mod Order
 pub mod Naming
 pub mod Renaming
+pub mod Averages
+pub mod Gathered
+pub mod Limits
+pub mod Counting

@@ -12,7 +12,7 @@ use Rattle.gw_meaning.specs.declared.statement.Statement.{Statement}
 use Rattle.gw_meaning.specs.declared.statement.Numbered.{Numbered}
 use Rattle.gw_meaning.specs.declared.transaction.Transaction.{Transaction}
 use Rattle.gw_meaning.specs.declared.transaction.Event.{Event}
-use Rattle.gw_meaning.specs.Listing.{Listing, block_of, block_of_body, operands_of_body, is_block, label_at, units_of, number_of, number_at, seed_in}
+use Rattle.gw_meaning.specs.Listing.{Listing, block_of, block_of_body, operands_of_body, is_block, label_at, has_label, definition_of_body, definition_if, or_next, defined_in, units_of, number_of, number_at, seed_in}
 use Rattle.gw_meaning.specs.declared.watched.EntityKind.TheVariants as kinds
 use Rattle.gw_meaning.specs.declared.watched.Watched.TheVariants as watched
 use Rattle.gw_meaning.specs.Changes.{retries}
@@ -29,6 +29,7 @@ use Rattle.gw_report.specs.Chains.{position_of, next_number, line_of, put_by, by
 use Rattle.gw_report.specs.Names.{name_columns, names_in_operand, names_of, names_in, each_once, value_by, next_by, value_text, next_behind, name_lines, names_text}
 use Rattle.gw_report.specs.Storages.{storage_columns, storage_row, storage_line, storages_text}
 use Rattle.gw_report.specs.Storages as storages
+use Rattle.gw_report.specs.Tables.{table_columns, table_row, scale_of_definition, scale_at, scale_lines, table_lines, tables_text}
 use Rattle.gw_report.specs.Blocks.{label_text, block_line, block_lines_of, block_lines, block_columns, blocks_text}
 use Rattle.gw_report.specs.Facilities.{facility_columns, facility_row, facility_line, facilities_text}
 use Rattle.gw_report.specs.Queues.{queue_columns, queue_row, queue_line, queues_text}
@@ -241,10 +242,40 @@ storages_text_renamed : (move : ℕ → ℕ) (t u : Listing) (s : Machine) → I
 unfolding storages_text
 storages_text_renamed move t u s r = ap (section_of storage_columns) (storages_renamed move t u r s s.entities.storages)
 
+-- the classes of a table, and as many wait for a change of it
+definition_renamed : (move : ℕ → ℕ) (name : List ℕ) (ls ms : List Numbered) → AreRenamed move ls ms → defined_in name ms ≡ defined_in name ls
+definition_renamed move name [] [] r = refl
+definition_renamed move name [] (m ∷ ms) r = absurd r
+definition_renamed move name (l ∷ ls) [] r = absurd r
+definition_renamed move name (l ∷ ls) (m ∷ ms) r = ap₂ or_next
+    (ap (λ (x : Statement). definition_if (has_label name x.label) (definition_of_body x.body)) r.1) (definition_renamed move name ls ms r.2)
+
+scale_renamed : (move : ℕ → ℕ) (t u : Listing) → IsRenamed move t u → (key : Key) → scale_at u key ≡ scale_at t key
+scale_renamed move t u r (keys.Num number) = refl
+scale_renamed move t u r (keys.Named name) = refl
+scale_renamed move t u r (keys.Defined name) = ap scale_of_definition (definition_renamed move name t.lines u.lines r.lines)
+
+table_renamed : (move : ℕ → ℕ) (t u : Listing) → IsRenamed move t u → (s : Machine) (e : Key × List ℤ) →
+    table_lines u (moved_machine move s) e ≡ table_lines t s e
+unfolding table_lines
+table_renamed move t u r s e =
+    ap₂ (λ retry scale. table_row retry e.0 e.1 ∷ scale_lines scale e.1) (retries_moved move r.is_move s (watched.Entity kinds.Table e.0))
+    (scale_renamed move t u r e.0)
+
+tables_renamed : (move : ℕ → ℕ) (t u : Listing) → IsRenamed move t u → (s : Machine) (es : List (Key × List ℤ)) →
+    flat_map (table_lines u (moved_machine move s)) es ≡ flat_map (table_lines t s) es
+tables_renamed move t u r s [] = refl
+tables_renamed move t u r s (e ∷ es) = ap₂ ◌++◌ (table_renamed move t u r s e) (tables_renamed move t u r s es)
+
+tables_text_renamed : (move : ℕ → ℕ) (t u : Listing) (s : Machine) → IsRenamed move t u → tables_text u (moved_machine move s) ≡ tables_text t s
+unfolding tables_text
+tables_text_renamed move t u s r = ap (section_of table_columns) (tables_renamed move t u r s s.entities.tables)
+
 pub renamed_text : RenamedText
 unfolding text_of
 renamed_text move t u rep k s outcome r =
     ap₂ ◌++◌
+    (ap₂ ◌++◌
     (ap₂ ◌++◌
     (ap₂ ◌++◌
     (ap₂ ◌++◌
@@ -255,5 +286,6 @@ renamed_text move t u rep k s outcome r =
     (facilities_text_renamed move r.is_move s))
     (queues_text_renamed move r.is_move s))
     (storages_text_renamed move t u s r))
+    (tables_text_renamed move t u s r))
     (current_renamed move t u r s))
     (future_renamed move t u r s)

@@ -1,6 +1,6 @@
 -- A row, column by column; a number in a cell.
 use Rattle.std.proofs.Common.{◌≡◌, ℕ, ℤ, pos, negsuc, ap, ◌∙◌, ◌+◌, ◌<◌, List, [], ◌∷◌, ◌++◌}
-use Rattle.std.proofs.Common.{append_assoc, ◌⊎◌, Some, None, slice_get, length, get_or, drop, refl, inl, inr, add-one, arith}
+use Rattle.std.proofs.Common.{append_assoc, ◌⊎◌, Some, None, slice_get, length, drop, refl, inl, inr, add-one, arith}
 use Rattle.std.proofs.lemmas.List.{drop_more}
 use Rattle.std.proofs.lemmas.Option.{slice_get_within, slice_get-get_or, get_or_from_slice_get}
 use Rattle.std.specs.Fmt.{decimal, signed_decimal}

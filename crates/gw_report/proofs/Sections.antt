@@ -65,3 +65,14 @@ row_more columns f xs i x before after whole here put left =
     ∙ append_assoc before (row_of columns (f x)) (rows_of columns (map f (drop (i + 1) xs)))
     ∙ sym (ap (λ ys. before ++ rows_of columns (map f ys)) (got_drop xs i x here))
     ∙ left
+
+-- several rows more
+pub rows_more : {X : Type 0} (columns : List Column) (f : X → List (List (List ℕ))) (xs : List X) (i : ℕ) (x : X) (before after whole : List ℕ) →
+    slice_get xs i ≡ Some x → after ≡ before ++ rows_of columns (f x) →
+    before ++ rows_of columns (flat_map f (drop i xs)) ≡ whole → after ++ rows_of columns (flat_map f (drop (i + 1) xs)) ≡ whole
+rows_more columns f xs i x before after whole here put left =
+    ap (λ l. l ++ rows_of columns (flat_map f (drop (i + 1) xs))) put
+    ∙ append_assoc before (rows_of columns (f x)) (rows_of columns (flat_map f (drop (i + 1) xs)))
+    ∙ sym (ap (λ l. before ++ l) (flat_map-append (row_of columns) (f x) (flat_map f (drop (i + 1) xs))))
+    ∙ sym (ap (λ ys. before ++ rows_of columns (flat_map f ys)) (got_drop xs i x here))
+    ∙ left

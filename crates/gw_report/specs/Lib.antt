@@ -9,6 +9,9 @@ pub mod Entities
 pub mod Facilities
 pub mod Queues
 pub mod Storages
+pub mod Moments
+pub mod Tables
+pub mod Counted
 pub mod Report
 pub mod Renamed
 pub use Rattle.gw_meaning.specs.Listing

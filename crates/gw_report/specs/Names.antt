@@ -10,7 +10,7 @@ use Rattle.gw_expr.specs.declared.atom.Atom.{Atom}
 use Rattle.gw_expr.specs.declared.atom.Atom.TheVariants as atoms
 use Rattle.gw_expr.specs.declared.token.Token.{Token}
 use Rattle.gw_expr.specs.declared.token.Token.TheVariants as tokens
-use Rattle.gw_expr.specs.Term.{Term, Value, Computed, Named, Label, Fraction, Defined, Order}
+use Rattle.gw_expr.specs.Term.{Term, Value, Computed, Named, Label, Fraction, Defined, Table, Order}
 use Rattle.gw_meaning.specs.Listing.{Listing, operands_of, label_at, number_at}
 use Rattle.gw_meaning.specs.declared.statement.Numbered.{Numbered}
 use Rattle.gw_report.specs.declared.column.Side.TheVariants.{Left, Right}
@@ -43,6 +43,7 @@ names_in_term (Named name) = name ∷ []
 names_in_term (Label name) = name ∷ []
 names_in_term (Fraction part) = []
 names_in_term (Defined name) = name ∷ []
+names_in_term (Table name) = name ∷ []
 names_in_term (Order discipline) = []
 
 abbrev pub names_in_operand : Option Term → List (List ℕ)
@@ -50,7 +51,7 @@ names_in_operand None = []
 names_in_operand (Some term) = names_in_term term
 
 -- what a statement names: the label first, then the operands of a block, the expression of a VARIABLE, or the argument
--- of a FUNCTION
+-- of a FUNCTION or of a TABLE
 abbrev pub names_of : Numbered → List (List ℕ)
 names_of line = option_to_list line.statement.label ++ flat_map names_in_operand (operands_of line)
 

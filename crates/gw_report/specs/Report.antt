@@ -12,6 +12,7 @@ use Rattle.gw_report.specs.Blocks.{blocks_text}
 use Rattle.gw_report.specs.Facilities.{facilities_text}
 use Rattle.gw_report.specs.Queues.{queues_text}
 use Rattle.gw_report.specs.Storages.{storages_text}
+use Rattle.gw_report.specs.Tables.{tables_text}
 use Rattle.gw_report.specs.Chains.{current_text, future_text}
 
 -- how the run of a START stands, as a word; a stop with its number behind an X
@@ -52,4 +53,5 @@ head_text t s = table_of head_columns ((decimal s.since ∷ decimal s.clock ∷ 
 -- the whole report, section behind section
 unfoldable pub text_of : Listing → ℕ → ℕ → Machine → Outcome → List ℕ
 text_of t rep k s outcome = title_text rep (seed_of t rep) k outcome ++ head_text t s ++ names_text t ++
-    blocks_text t s ++ facilities_text s ++ queues_text s ++ storages_text t s ++ current_text t s ++ future_text t s
+    blocks_text t s ++ facilities_text s ++ queues_text s ++ storages_text t s ++ tables_text t s ++
+    current_text t s ++ future_text t s

@@ -56,7 +56,8 @@ fn put_cell(sheet: &mut Sheet, gap: usize, column: &Column, cell: &Cell) -> Resu
     }
 }
 
-fn put_number(
+/// Appends a cell behind a gap: a number.
+pub fn put_number(
     sheet: &mut Sheet,
     gap: usize,
     width: usize,
@@ -90,7 +91,8 @@ fn put_signed(
     sheet.put_text(gap, width, side, digits.format(value.get()).as_bytes())
 }
 
-fn put_thousandths(
+/// Appends a cell behind a gap: a number of thousandths, in three decimals.
+pub fn put_thousandths(
     sheet: &mut Sheet,
     gap: usize,
     width: usize,
@@ -112,8 +114,8 @@ fn put_thousandths(
     }
 }
 
-// The three decimals of a number of thousandths, behind a point.
-fn fraction_of(number: u128) -> [u8; 4]
+/// The three decimals of a number of thousandths, behind a point.
+pub fn fraction_of(number: u128) -> [u8; 4]
     ensures { result ≡ fraction_of number }
 {
     [

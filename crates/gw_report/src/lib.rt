@@ -1,12 +1,14 @@
 //! The standard report of one START of one replication, as bytes.
 //!
-//! [`print`] is the only call, beside the law that statement ids do not show. A section is a heading and a
-//! function that appends its lines; the definition of the whole text, `specs/Report.antt`, and `report.rt` name the
-//! sections in the same order. The lines of a section are written in place over blanks (`sheet.rt`): those of the
-//! blocks and the chains cell by cell, the others by a table of their columns (`column.rt`).
+//! [`print`] is the only call, beside the laws that statement ids do not show and that the classes of a table count
+//! each value once. A section is a heading and a function that appends its lines; the definition of the whole text,
+//! `specs/Report.antt`, and `report.rt` name the sections in the same order. The lines of a section are written in
+//! place over blanks (`sheet.rt`): those of the blocks, the tables and the chains cell by cell, the others by a table of
+//! their columns (`column.rt`).
 #![tactic(auto)]
 
 mod blocks;
+mod classes;
 mod column;
 mod current;
 mod entity;
@@ -16,6 +18,7 @@ mod head;
 mod laid;
 mod laws;
 mod line;
+mod moments;
 mod names;
 mod position;
 mod queues;
@@ -23,7 +26,8 @@ mod report;
 mod section;
 mod sheet;
 mod storages;
+mod tables;
 mod title;
 
-pub use laws::renamed_text;
+pub use laws::{classes_hold, renamed_text};
 pub use report::print;

@@ -67,7 +67,7 @@ fn add_statement(names: &mut IndexSet<Key>, line: &Numbered) -> Result<(), Alloc
     }
 }
 
-// Adds what the expression of a VARIABLE names, or the argument of a FUNCTION.
+// Adds what the expression of a VARIABLE names, or the argument of a FUNCTION or of a TABLE.
 fn add_definition(names: &mut IndexSet<Key>, definition: &Definition) -> Result<(), AllocError>
     ensures { OnOk result (names.new.keys ≡ insert_all key_eq names.old.keys
         (as_keys (flat_map names_in_operand (operands_of_definition definition.now)))) }
@@ -75,6 +75,7 @@ fn add_definition(names: &mut IndexSet<Key>, definition: &Definition) -> Result<
     match definition {
         Definition::Variable { expression } => add_term(names, expression),
         Definition::Function(function) => add_term(names, &function.argument),
+        Definition::Table(table) => add_term(names, &table.argument),
         Definition::Storage { .. } | Definition::Equ { .. } => Ok(()),
     }
 }
@@ -110,6 +111,7 @@ fn add_term(names: &mut IndexSet<Key>, expr: &Expr) -> Result<(), AllocError>
         Node::Named(name) => add_name(names, name.name()),
         Node::Label(name) => add_name(names, name),
         Node::Defined(name) => add_name(names, name.name()),
+        Node::Table(name) => add_name(names, name),
         Node::Fraction(_) | Node::Order(_) => Ok(()),
     }
 }

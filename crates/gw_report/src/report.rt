@@ -10,6 +10,7 @@ use crate::head::put_head;
 use crate::names::put_names;
 use crate::queues::put_queues;
 use crate::storages::put_storages;
+use crate::tables::put_tables;
 use crate::title::put_title;
 use gw_meaning::Outcome;
 use gw_model::Version;
@@ -40,6 +41,7 @@ pub fn print(
     put_facilities(&mut text, state, state.delays())?;
     put_queues(&mut text, state)?;
     put_storages(&mut text, version, state, state.delays())?;
+    put_tables(&mut text, version, state)?;
     put_current(&mut text, version, state)?;
     put_future(&mut text, version, state)?;
     Ok(text)

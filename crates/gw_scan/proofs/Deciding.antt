@@ -40,6 +40,8 @@ alone s change (fates.Destroyed count) h = h
 made : (t : Listing) (s : Machine) (m : Move) → IsDecided t s m → IsMade s m
 made t s (moves.Start count arrivals) h = tt
 made t s moves.Command h = tt
+made t s moves.Reset h = tt
+made t s moves.Clear h = tt
 made t s (moves.Enter id change fate) h = alone s change fate h.2
 made t s (moves.Refuse id key units) h = tt
 made t s (moves.Watch read) h = tt

@@ -22,7 +22,7 @@ use Rattle.gw_meaning.specs.declared.item.Item.TheVariants as items
 use Rattle.gw_meaning.specs.Listing.{Listing}
 use Rattle.gw_meaning.specs.Machine.{Machine}
 use Rattle.gw_meaning.specs.Questions.{Answer, ask, Prog, Gives, Ends, Asks, result_of, ◌>>=◌}
-use Rattle.gw_meaning.specs.Evaluation.{Eval, gives, ends_with, asks, ◌~>◌, stops_if, number_of_draw, draw, amount, own_value, numbered, named, subject_prog, storage_prog, left_prog, counted, block_count, drawn_prog, random_prog, random_part, entity_value, storage_value, block_value, value_held, parameter_value, attribute_prog, entity_watched, storage_watched, counts_watched, watched_prog}
+use Rattle.gw_meaning.specs.Evaluation.{Eval, gives, ends_with, asks, ◌~>◌, stops_if, number_of_draw, draw, amount, own_value, numbered, named, subject_prog, defined_prog, left_prog, counted, block_count, drawn_prog, random_prog, random_part, entity_value, storage_value, table_value, block_value, value_held, parameter_value, attribute_prog, entity_watched, defined_watched, counts_watched, watched_prog}
 use Rattle.gw_asking.specs.declared.halt.Why.{Why}
 use Rattle.gw_asking.specs.declared.halt.Why.TheVariants as whys
 use Rattle.gw_asking.specs.Halts.{IsFault}
@@ -150,7 +150,12 @@ storage_stops s class.Sc key = amount_stops _
 storage_stops s class.Sm key = amount_stops _
 storage_stops s of key = stopping_ends Range
 
-storages_stop : (s : Machine) (class : Class) (of : Subject) → Stopping (storage_prog of (λ key. storage_value s class key))
+table_stops : (s : Machine) (of : Subject) → Stopping (defined_prog of (λ key. table_value s key))
+table_stops s subjects.Own = stopping_ends Range
+table_stops s (subjects.Number n) = stopping_ends Range
+table_stops s (subjects.Name name) = amount_stops _
+
+storages_stop : (s : Machine) (class : Class) (of : Subject) → Stopping (defined_prog of (λ key. storage_value s class key))
 storages_stop s class subjects.Own = stopping_ends Range
 storages_stop s class (subjects.Number n) = stopping_ends Range
 storages_stop s class (subjects.Name name) = storage_stops s class (keys.Defined name)
@@ -197,6 +202,7 @@ attribute_stops s q class.S of = storages_stop s class.S of
 attribute_stops s q class.R of = left_stops s of
 attribute_stops s q class.Sc of = storages_stop s class.Sc of
 attribute_stops s q class.Sm of = storages_stop s class.Sm of
+attribute_stops s q class.Tc of = table_stops s of
 attribute_stops s q class.N of = blocks_stop s class.N of
 attribute_stops s q class.W of = blocks_stop s class.W of
 attribute_stops s q class.Rn of = random_stops of
@@ -206,10 +212,10 @@ attribute_stops s q class of = stopping_ends Range
 entity_watched_stops : (kind : EntityKind) (of : Subject) → Stopping (entity_watched kind of)
 entity_watched_stops kind of = stopping_bind (subject_stops of) (λ key. stopping_gives _)
 
-storage_watched_stops : (of : Subject) → Stopping (storage_watched of)
-storage_watched_stops subjects.Own = stopping_gives []
-storage_watched_stops (subjects.Number n) = stopping_gives []
-storage_watched_stops (subjects.Name name) = stopping_gives _
+defined_watched_stops : (kind : EntityKind) (of : Subject) → Stopping (defined_watched kind of)
+defined_watched_stops kind subjects.Own = stopping_gives []
+defined_watched_stops kind (subjects.Number n) = stopping_gives []
+defined_watched_stops kind (subjects.Name name) = stopping_gives _
 
 counts_watched_stops : (of : Subject) → Stopping (counts_watched of)
 counts_watched_stops subjects.Own = stopping_gives []
@@ -228,10 +234,11 @@ watched_stops class.X of = entity_watched_stops kinds.Savevalue of
 watched_stops class.Ls of = entity_watched_stops kinds.Switch of
 watched_stops class.Ch of = entity_watched_stops kinds.UserChain of
 watched_stops class.Cc of = entity_watched_stops kinds.UserChain of
-watched_stops class.S of = storage_watched_stops of
-watched_stops class.R of = storage_watched_stops of
-watched_stops class.Sc of = storage_watched_stops of
-watched_stops class.Sm of = storage_watched_stops of
+watched_stops class.S of = defined_watched_stops kinds.Storage of
+watched_stops class.R of = defined_watched_stops kinds.Storage of
+watched_stops class.Sc of = defined_watched_stops kinds.Storage of
+watched_stops class.Sm of = defined_watched_stops kinds.Storage of
+watched_stops class.Tc of = defined_watched_stops kinds.Table of
 watched_stops class.N of = counts_watched_stops of
 watched_stops class.W of = counts_watched_stops of
 watched_stops class of = stopping_gives []

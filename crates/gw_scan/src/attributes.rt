@@ -1,7 +1,7 @@
 // The values of attributes: what a state says of itself, of the transaction that asks, of an entity or of a block.
 ghost use Rattle.std.specs.Prelude.{◌≡◌, pos};
 ghost use Rattle.gw_expr.specs.declared.attribute.Subject.TheVariants as subjects;
-ghost use Rattle.gw_meaning.specs.Evaluation.{amount, own_value, owned, subject_prog, named, numbered, parameter_value, entity_value, storage_prog, storage_value, block_count, counted, block_value, drawn_prog, random_prog, random_part, millionths, thousandth, attribute_prog, ◌~>◌, left_prog, units_left};
+ghost use Rattle.gw_meaning.specs.Evaluation.{amount, own_value, owned, subject_prog, named, numbered, parameter_value, entity_value, defined_prog, storage_value, table_value, block_count, counted, block_value, drawn_prog, random_prog, random_part, millionths, thousandth, attribute_prog, ◌~>◌, left_prog, units_left};
 ghost use Rattle.gw_meaning.specs.Step.{for_none, for_one};
 ghost use Rattle.gw_asking.specs.Deciding.{Decides, Comes};
 
@@ -54,6 +54,7 @@ impl State {
             Class::Ch | Class::Cc => self.of_entity(case, notes, class, of),
             Class::S | Class::Sc | Class::Sm => self.of_storage(class, of),
             Class::R => self.left(case, notes, of),
+            Class::Tc => self.of_table(of),
             Class::N | Class::W => self.of_block(case, notes, class, of),
             Class::Rn => random(case, notes, of),
             _ => Err(Halt::RANGE),
@@ -143,7 +144,7 @@ impl State {
     // Of a storage.
     #[inline(never)]
     fn of_storage(&self, class: Class, of: &Subject) -> Result<Val, Halt>
-        ensures { Comes (storage_prog of.now (λ key. storage_value self.now class key)) result }
+        ensures { Comes (defined_prog of.now (λ key. storage_value self.now class key)) result }
     {
         match of {
             Subject::Name(name) => self.storage_value(class, &Key::Defined(name.clone()?)),
@@ -159,6 +160,20 @@ impl State {
             Class::S => amount(storage.level().content()),
             Class::Sc => amount(storage.entries()),
             Class::Sm => amount(storage.greatest()),
+            _ => Err(Halt::RANGE),
+        }
+    }
+
+    // Of a table.
+    #[inline(never)]
+    fn of_table(&self, of: &Subject) -> Result<Val, Halt>
+        ensures { Comes (defined_prog of.now (λ key. table_value self.now key)) result }
+    {
+        match of {
+            Subject::Name(name) => {
+                let key = Key::Defined(name.clone()?);
+                amount(self.entities.tables().count(&key) as u64)
+            }
             _ => Err(Halt::RANGE),
         }
     }

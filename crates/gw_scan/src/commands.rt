@@ -1,4 +1,4 @@
-// START and RMULT.
+// START, RESET, CLEAR and RMULT.
 ghost use Rattle.std.specs.Prelude.{◌≡◌, option_copied};
 ghost use Rattle.gw_meaning.specs.Step.{move_prog, command_prog, start_prog, first_arrivals_prog};
 ghost use Rattle.gw_asking.specs.Deciding.{Decides};
@@ -30,6 +30,8 @@ impl State {
     {
         match command {
             Some(Command::Start { count }) => self.start(case, notes, *count),
+            Some(Command::Reset) => Ok(Move::Reset),
+            Some(Command::Clear) => Ok(Move::Clear),
             Some(Command::Rmult { values }) => {
                 notes.set_streams(values.as_slice());
                 Ok(Move::Command)

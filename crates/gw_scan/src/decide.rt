@@ -92,6 +92,7 @@ impl State {
             BlockVerb::Gate => self.decide_gate(case, asker, notes, id, beside, a, b),
             BlockVerb::Logic => self.decide_logic(case, asker, notes, id, beside, a),
             BlockVerb::Savevalue => self.decide_savevalue(case, asker, notes, id, beside, a, b),
+            BlockVerb::Tabulate => self.decide_tabulate(case, asker, notes, id, a),
             BlockVerb::Split => self.decide_split(case, asker, notes, id, a, b),
             BlockVerb::Link => self.decide_link(case, asker, notes, id, a, b),
             BlockVerb::Unlink => self.decide_unlink(case, asker, notes, id, a, b, c),
@@ -100,7 +101,6 @@ impl State {
             BlockVerb::Buffer => decide_buffer(id),
             BlockVerb::Assign => self.decide_assign(case, asker, notes, id, beside, a, b),
             BlockVerb::Loop => self.decide_loop(case, asker, notes, id, a, b),
-            _ => Err(Halt::NO_NEXT_BLOCK),
         }
     }
 }

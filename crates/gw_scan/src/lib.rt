@@ -29,6 +29,7 @@ mod state;
 mod steps;
 mod storing;
 mod switches;
+mod tabulating;
 mod tally;
 mod times;
 mod traced;

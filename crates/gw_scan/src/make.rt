@@ -36,6 +36,11 @@ impl State {
                 self.progress.count_command();
                 Ok(())
             }
+            Move::Reset => self.reset(alloc),
+            Move::Clear => {
+                self.clear(alloc);
+                Ok(())
+            }
             Move::Enter { id, change, fate } => self.enter(alloc, id, &change, &fate),
             Move::Refuse { id, key, units } => self.refuse(id, &key, units),
             Move::Watch { read } => self.watch(read),
@@ -57,6 +62,32 @@ impl State {
         make_all(&mut self.next, &mut self.future, &mut self.counts, arrivals);
         self.progress.start(count);
         Ok(())
+    }
+
+    // A RESET: what is counted is counted anew, and who is where stays.
+    fn reset(&mut self, alloc: Global) -> Result<(), AllocError>
+        ensures ok { OnOk result (self.new ≡ moved self.old moves.Reset) }
+        ensures err { OnErr result (self.new ≡ self.old) }
+    {
+        self.entities.count_anew(alloc, self.clocks.clock())?;
+        self.counts.count_anew();
+        self.linked.count_anew();
+        self.clocks.reset();
+        self.progress.count_command();
+        Ok(())
+    }
+
+    // A CLEAR: all begins anew but for what is done of the commands and for the streams.
+    fn clear(&mut self, alloc: Global)
+        ensures { self.new ≡ moved self.old moves.Clear }
+    {
+        let streams = self.streams;
+        let mut progress = self.progress;
+        progress.clear();
+        progress.count_command();
+        *self = State::zero(alloc);
+        self.streams = streams;
+        self.progress = progress;
     }
 
     // The active transaction is refused at a block, and waits on the delay chain of a key for so many units.

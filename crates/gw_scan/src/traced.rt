@@ -1,7 +1,7 @@
 // What an evaluation of operands asks of a state, where it is kept besides what it reads that a block may write.
 ghost use Rattle.std.specs.Prelude.{◌≡◌, OnOk};
 ghost use Rattle.std.specs.Option.{option_to_list};
-ghost use Rattle.gw_meaning.specs.Evaluation.{subject_prog, entity_watched, storage_watched, counts_watched, counts_of, watched_prog};
+ghost use Rattle.gw_meaning.specs.Evaluation.{subject_prog, entity_watched, defined_watched, counts_watched, counts_of, watched_prog};
 ghost use Rattle.gw_meaning.specs.Watching.{is_watched, with_watched, with_all_watched};
 ghost use Rattle.gw_asking.specs.Deciding.{Decides};
 ghost use Rattle.gw_scan.specs.Tracing.{IsTracedStill, TracedReplies, attribute_traced, listed, with_read};
@@ -95,8 +95,9 @@ fn watched(
         Class::X => entity_watched(case, notes, EntityKind::Savevalue, of),
         Class::Ls => entity_watched(case, notes, EntityKind::Switch, of),
         Class::Ch | Class::Cc => entity_watched(case, notes, EntityKind::UserChain, of),
-        Class::S | Class::R => storage_watched(case, notes, of),
-        Class::Sc | Class::Sm => storage_watched(case, notes, of),
+        Class::S | Class::R => defined_watched(case, notes, EntityKind::Storage, of),
+        Class::Sc | Class::Sm => defined_watched(case, notes, EntityKind::Storage, of),
+        Class::Tc => defined_watched(case, notes, EntityKind::Table, of),
         Class::N | Class::W => counts_watched(case, notes, of),
         _ => Ok(None),
     }
@@ -116,15 +117,20 @@ fn entity_watched(
     Ok(Some(Watched::Entity(kind, key)))
 }
 
-// The storage that an attribute is of.
-fn storage_watched(case: Case, notes: &mut Notes, of: &Subject) -> Result<Option<Watched>, Halt>
-    ensures { Decides case.entry.version.now case.entry.seed (storage_watched of.now) (listed result)
+// The storage or the table that an attribute is of.
+fn defined_watched(
+    case: Case,
+    notes: &mut Notes,
+    kind: EntityKind,
+    of: &Subject,
+) -> Result<Option<Watched>, Halt>
+    ensures { Decides case.entry.version.now case.entry.seed (defined_watched kind of.now) (listed result)
         notes.old notes.new }
 {
     match of {
         Subject::Name(name) => {
             let key = Key::Defined(name.clone()?);
-            Ok(Some(Watched::Entity(EntityKind::Storage, key)))
+            Ok(Some(Watched::Entity(kind, key)))
         }
         _ => Ok(None),
     }

@@ -77,6 +77,7 @@ fn kind_of(deed: &Deed) -> EntityKind
         Deed::Storage(_) => EntityKind::Storage,
         Deed::Savevalue { .. } => EntityKind::Savevalue,
         Deed::Switch { .. } => EntityKind::Switch,
+        Deed::Table { .. } => EntityKind::Table,
     }
 }
 

@@ -3,6 +3,7 @@ use Rattle.std.proofs.Common.{◌≡◌, ℕ, zero, suc, ◌<◌, ◌≤◌, Boo
 use Rattle.std.proofs.Common.{[], ◌∷◌, length, get_or, Option, Some, None, refl, sym, ap, ◌∙◌, arith, eq-eqb, ⊎_elim}
 use Rattle.std.specs.Prelude.{is_some, slice_get}
 use Rattle.std.specs.List.{IsDistinct, list_any}
+use Rattle.std.specs.Map.{keys_of}
 use Rattle.std.proofs.lemmas.Bool.{eqb-true, cases_lt}
 use Rattle.std.proofs.lemmas.List.{get_or_read}
 use Rattle.std.proofs.lemmas.Option.{slice_get_past}
@@ -64,6 +65,17 @@ module _ {V : Type 0} where
       let first = first_value values n ns h in
       ap (λ o. length (with_pair n o (pairs_of values ns))) first.1
       ∙ ap suc (length-pairs_of ns values (other_values values n ns h))
+
+  -- their numbers
+  keys-pairs_of : (ns : List ℕ) (values : List (Option V)) → HaveValues values ns → keys_of (pairs_of values ns) ≡ ns
+  keys-pairs_of [] values h = refl
+  keys-pairs_of (n ∷ ns) values h =
+      let first = first_value values n ns h in
+      ap (λ o. keys_of (with_pair n o (pairs_of values ns))) first.1
+      ∙ ap (λ (ms : List ℕ). n ∷ ms) (keys-pairs_of ns values (other_values values n ns h))
+
+  pub keys_are : (ns : List ℕ) (values : List (Option V)) → IsListed ns values → keys_of (pairs_of values ns) ≡ ns
+  keys_are ns values h = keys-pairs_of ns values (have_values ns values h)
 
   -- there are as many pairs as numbers
   pub length_is : (ns : List ℕ) (values : List (Option V)) → IsListed ns values → length (pairs_of values ns) ≡ length ns

@@ -1,4 +1,6 @@
-ghost use Rattle.std.specs.Prelude.{◌≡◌, ◌<◌, ◌≤◌, [], length, slice_get, IfOk, OnOk};
+ghost use Rattle.std.specs.Prelude.{◌≡◌, ◌<◌, ◌≤◌, [], length, nat_eq, slice_get, IfOk, OnOk};
+ghost use Rattle.std.specs.List.{IsDistinct};
+ghost use Rattle.std.specs.Map.{keys_of};
 ghost use Rattle.gw_table.specs.Pairs.{value_in, with_value, HasRoom};
 
 use std::alloc::{AllocError, Global};
@@ -41,9 +43,10 @@ impl<V: Copy> Table<V> {
         }
     }
 
-    /// How many pairs there are.
+    /// How many pairs there are. No number stands twice among them.
     pub fn len(&self) -> usize
-        ensures { result ≡ length self.now.entries }
+        ensures len { result ≡ length self.now.entries }
+        ensures distinct { IsDistinct nat_eq (keys_of self.now.entries) }
     {
         self.numbers.len()
     }

@@ -1,4 +1,4 @@
-use gw_lanes::{first_at, least};
+use gw_lanes::{class_counts, count_at_most, first_at, least};
 use std::test::Fail;
 
 // Of none, one and two, of a block of eight and a rest, of two blocks, and of a rest that has the least.
@@ -77,4 +77,66 @@ fn the_first_of_equal_places(rt: HostRuntime) {
     for (numbers, wanted, place) in cases {
         assert_eq!(rt; first_at(numbers, wanted), Some(place));
     }
+}
+
+// Of 0, 15, 16, 17 and 33 values: all are one, which is below, at and above the limit.
+#[test]
+fn values_that_are_all_one(rt: HostRuntime) {
+    let values = [7; 33];
+    for count in [0, 15, 16, 17, 33] {
+        let part = &values[..count];
+        assert_eq!(rt; count_at_most(part, 6), 0);
+        assert_eq!(rt; count_at_most(part, 7), count);
+        assert_eq!(rt; count_at_most(part, 8), count);
+    }
+}
+
+// At both ends of the range.
+#[test]
+fn values_at_both_ends(rt: HostRuntime) {
+    let mut values = [i32::MIN; 33];
+    values[16..].fill(i32::MAX);
+    let cases: [(&[i32], i32, usize); 6] = [
+        (&values, i32::MIN, 16),
+        (&values, i32::MAX, 33),
+        (&values, 0, 16),
+        (&values[1..], -1, 15),
+        (&values[16..], i32::MAX - 1, 0),
+        (&[], i32::MAX, 0),
+    ];
+    for (numbers, limit, wanted) in cases {
+        assert_eq!(rt; count_at_most(numbers, limit), wanted);
+    }
+}
+
+// A value at a limit lies in the class below it, also in the rest behind the blocks.
+#[test]
+fn values_by_classes(rt: HostRuntime) {
+    let mut values = [10; 33];
+    values[..15].fill(-5);
+    values[32] = 11;
+    let cases: [(&[i32], &[i32], [u32; 3]); 8] = [
+        (&values, &[-5, 10], [15, 17, 1]),
+        (&values, &[-6, 9], [0, 15, 18]),
+        (&values, &[-1_000_000_000, 1_000_000_000], [0, 33, 0]),
+        (&values, &[11, 12], [33, 0, 0]),
+        (&values[..16], &[-5, 10], [15, 1, 0]),
+        (&values[..15], &[-5, 10], [15, 0, 0]),
+        (&values[15..32], &[-5, 10], [0, 17, 0]),
+        (&[], &[-5, 10], [0, 0, 0]),
+    ];
+    for (numbers, limits, wanted) in cases {
+        let mut counts = [9; 3];
+        class_counts(numbers, limits, &mut counts);
+        assert_eq!(rt; counts, wanted);
+    }
+}
+
+// Without a limit there is one class.
+#[test]
+fn values_of_one_class(rt: HostRuntime) {
+    let values = [i32::MAX; 17];
+    let mut counts = [9];
+    class_counts(&values, &[], &mut counts);
+    assert_eq!(rt; counts, [17]);
 }

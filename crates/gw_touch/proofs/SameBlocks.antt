@@ -26,14 +26,14 @@ use Rattle.gw_expr.specs.declared.attribute.Subject.TheVariants as subjects
 use Rattle.gw_names.specs.declared.verb.BlockVerb.{BlockVerb}
 use Rattle.gw_expr.specs.declared.expr.Discipline.{Discipline}
 use Rattle.gw_expr.specs.declared.expr.Discipline.TheVariants as disciplines
-use Rattle.gw_expr.specs.Term.{Term, Value, Computed, Named, Label, Fraction, Defined, Order}
+use Rattle.gw_expr.specs.Term.{Term, Value, Computed, Named, Label, Fraction, Defined, Table, Order}
 use Rattle.gw_expr.specs.declared.atom.Atom.{Atom}
 use Rattle.gw_expr.specs.declared.token.Token.{Token}
 use Rattle.gw_meaning.specs.declared.statement.Statement.{Statement}
 use Rattle.gw_meaning.specs.declared.statement.Block.{Block}
 use Rattle.gw_meaning.specs.declared.statement.Body.{Body}
 use Rattle.gw_meaning.specs.declared.statement.Body.TheVariants as bodies
-use Rattle.gw_touch.specs.Same.{same_atom, same_value, same_part, same_parts, same_type, same_point, same_points, same_function, kind_of, atom_of, parts_of, number_of, bytes_of, same_term, same_operand, same_operands, same_verb, auxiliary_number, same_auxiliary, same_block, same_body, same_statement, same_label}
+use Rattle.gw_touch.specs.Same.{same_atom, same_value, same_part, same_parts, same_type, same_point, same_points, same_function, same_first, kind_of, atom_of, parts_of, number_of, bytes_of, same_term, same_operand, same_operands, same_verb, auxiliary_number, same_auxiliary, same_block, same_body, same_statement, same_label}
 
 -- the queue discipline with a number
 abbrev discipline_with : ℕ → Discipline
@@ -49,7 +49,8 @@ told (suc (suc zero)) atom parts n bytes = Named bytes
 told (suc (suc (suc zero))) atom parts n bytes = Label bytes
 told (suc (suc (suc (suc zero)))) atom parts n bytes = Fraction n
 told (suc (suc (suc (suc (suc zero))))) atom parts n bytes = Defined bytes
-told (suc (suc (suc (suc (suc (suc k)))))) atom parts n bytes = Order (discipline_with n)
+told (suc (suc (suc (suc (suc (suc zero)))))) atom parts n bytes = Table bytes
+told (suc (suc (suc (suc (suc (suc (suc k))))))) atom parts n bytes = Order (discipline_with n)
 
 told_back : (a : Term) → told (kind_of a) (atom_of a) (parts_of a) (number_of a) (bytes_of a) ≡ a
 told_back (Value atom) = refl
@@ -58,6 +59,7 @@ told_back (Named name) = refl
 told_back (Label name) = refl
 told_back (Fraction part) = refl
 told_back (Defined name) = refl
+told_back (Table name) = refl
 told_back (Order disciplines.Fifo) = refl
 told_back (Order disciplines.Lifo) = refl
 
@@ -122,6 +124,11 @@ pub more_parts_than_none : (ts us : List Token) → 1 ≤ length ts → length u
 more_parts_than_none [] us some none = absurd (omega arith)
 more_parts_than_none (t ∷ ts) [] some none = refl
 more_parts_than_none (t ∷ ts) (u ∷ us) some none = absurd (omega arith)
+
+pub more_bytes_than_none : (xs ys : List ℕ) → 1 ≤ length xs → length ys < 1 → same_first xs ys ≡ (get_or xs 0 0 == 44)
+more_bytes_than_none [] bs some none = absurd (omega arith)
+more_bytes_than_none (a ∷ rest) [] some none = refl
+more_bytes_than_none (a ∷ rest) (b ∷ bs) some none = absurd (omega arith)
 
 pub term_same : (a b : Term) → same_term a b ≡ true → a ≡ b
 term_same a b h =

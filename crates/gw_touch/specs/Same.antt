@@ -1,6 +1,7 @@
 -- When a block is the block that it was: it has the same verb, auxiliary and operands, as they are listed and as they
--- are read. Its label does not count. And when a FUNCTION is the one that it was. (Our own.)
-use Rattle.std.specs.Prelude.{ℕ, ◌==◌, Bool, true, false, ◌&&◌, List, [], ◌∷◌, Option, Some, None}
+-- are read. Its label does not count. And when a FUNCTION, and the argument of a TABLE, is the one that it was. (Our
+-- own.)
+use Rattle.std.specs.Prelude.{ℕ, ◌==◌, Bool, true, false, ◌&&◌, ◌||◌, List, [], ◌∷◌, Option, Some, None}
 use Rattle.std.specs.Str.{bytes_eq}
 use Rattle.std.specs.Cmp.Lexicographic.{pointwise}
 use denote.Enum.Bare.{sameb}
@@ -17,7 +18,7 @@ use Rattle.gw_expr.specs.declared.token.Token.{Token}
 use Rattle.gw_names.specs.declared.verb.BlockVerb.{BlockVerb}
 use Rattle.gw_expr.specs.declared.expr.Discipline.{Discipline}
 use Rattle.gw_expr.specs.declared.expr.Discipline.TheVariants as disciplines
-use Rattle.gw_expr.specs.Term.{Term, Value, Computed, Named, Label, Fraction, Defined, Order}
+use Rattle.gw_expr.specs.Term.{Term, Value, Computed, Named, Label, Fraction, Defined, Table, Order}
 use Rattle.gw_meaning.specs.declared.statement.Statement.{Statement}
 use Rattle.gw_meaning.specs.declared.auxiliary.Auxiliary.{Auxiliary}
 use Rattle.gw_meaning.specs.declared.auxiliary.Auxiliary.TheVariants as auxiliaries
@@ -36,7 +37,8 @@ kind_of (Named name) = 2
 kind_of (Label name) = 3
 kind_of (Fraction part) = 4
 kind_of (Defined name) = 5
-kind_of (Order discipline) = 6
+kind_of (Table name) = 6
+kind_of (Order discipline) = 7
 
 abbrev pub atom_of : Term → Option Atom
 atom_of (Value atom) = Some atom
@@ -59,6 +61,7 @@ abbrev pub bytes_of : Term → List ℕ
 bytes_of (Named name) = name
 bytes_of (Label name) = name
 bytes_of (Defined name) = name
+bytes_of (Table name) = name
 bytes_of term = []
 
 -- two values, and two lists of parts
@@ -163,3 +166,10 @@ abbrev pub same_function : Function → Function → Bool
 same_function f g =
     same_term f.argument g.argument && (same_type f.kind g.kind && ((f.count == g.count)
     && same_points f.points g.points))
+
+-- two first operands, as they are written: each ends in front of a comma
+abbrev pub same_first : List ℕ → List ℕ → Bool
+same_first [] [] = true
+same_first [] (b ∷ bs) = b == 44
+same_first (a ∷ rest) [] = a == 44
+same_first (a ∷ rest) (b ∷ bs) = (a == b) && ((a == 44) || same_first rest bs)

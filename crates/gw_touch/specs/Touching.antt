@@ -21,7 +21,7 @@ use Rattle.gw_touch.specs.declared.touch.Probe.{Probe}
 use Rattle.gw_touch.specs.declared.touch.Probe.TheVariants.{One, CommandsFrom, Beyond, Amounts}
 use Rattle.gw_uses.specs.Asks.{is_ask}
 use Rattle.gw_expr.specs.Term.{Term}
-use Rattle.gw_touch.specs.Same.{same_statement, same_label, same_term, same_function}
+use Rattle.gw_touch.specs.Same.{same_statement, same_label, same_term, same_function, same_first}
 
 -- whether a probe is of an item: of that one, of a command from the first one on, of a later time than the last one, of
 -- an amount that two capacities answer in two ways, or the capacity itself
@@ -92,12 +92,13 @@ abbrev pub block_probes : Listing → ℕ → Numbered → List Probe
 block_probes t place line = given (block_slots (block_before t place) line)
 
 -- a definition that is inserted or deleted touches what is asked of its name: of a STORAGE each amount and the
--- capacity, of an EQU the number, of a VARIABLE the expression, of a FUNCTION all of it
+-- capacity, of an EQU the number, of a VARIABLE the expression, of a FUNCTION all of it, of a TABLE the argument
 abbrev pub definition_slot : Option (List ℕ) → Option Definition → Option Probe
 definition_slot (Some name) (Some (definitions.Storage capacity)) = Some (Amounts name None None)
 definition_slot (Some name) (Some (definitions.Equ value)) = Some (One (items.Named asking.Number name))
 definition_slot (Some name) (Some (definitions.Variable expression)) = Some (One (items.Named asking.Variable name))
 definition_slot (Some name) (Some (definitions.Function function)) = Some (One (items.Named asking.Function name))
+definition_slot (Some name) (Some (definitions.Table table)) = Some (One (items.Named asking.Table name))
 definition_slot label definition = None
 
 abbrev pub definition_probes : Numbered → List Probe
@@ -144,10 +145,15 @@ same_expression old new a b = bytes_eq old.operands new.operands && same_term a 
 abbrev pub same_curve : Statement → Statement → Function → Function → Bool
 same_curve old new a b = bytes_eq old.operands new.operands && same_function a b
 
+-- whether two TABLEs have one argument, as it is written and as it is read
+abbrev pub same_argument : Statement → Statement → Term → Term → Bool
+same_argument old new a b = same_first old.operands new.operands && same_term a b
+
 -- a statement that is another one, of which not both are blocks: of a storage of one name the amounts that the two
 -- capacities answer in two ways, of an EQU of one name the number where it is another one, of a VARIABLE of one name
--- the expression and of a FUNCTION of one name the FUNCTION where it is another one; else what the deleted one touches,
--- and what the inserted one
+-- the expression, of a FUNCTION of one name the FUNCTION and of a TABLE of one name the argument where it is another
+-- one; else what the deleted one touches, and what the inserted one. The classes of a TABLE touch nothing, since no step
+-- reads them.
 abbrev pub other_change :
     Option (List ℕ) → Option Definition → Option Definition → Listing → ℕ → Numbered → Numbered → List Probe
 other_change (Some name) (Some (definitions.Storage from)) (Some (definitions.Storage to)) t place old new =
@@ -158,6 +164,9 @@ other_change (Some name) (Some (definitions.Variable a)) (Some (definitions.Vari
     given (one_if (not (same_expression old.statement new.statement a b)) (items.Named asking.Variable name) ∷ [])
 other_change (Some name) (Some (definitions.Function a)) (Some (definitions.Function b)) t place old new =
     given (one_if (not (same_curve old.statement new.statement a b)) (items.Named asking.Function name) ∷ [])
+other_change (Some name) (Some (definitions.Table a)) (Some (definitions.Table b)) t place old new =
+    given (one_if (not (same_argument old.statement new.statement a.argument b.argument)) (items.Named asking.Table name)
+    ∷ [])
 other_change name before behind t place old new = line_probes t place old ++ line_probes t place new
 
 -- of a statement, where there is one

@@ -1,5 +1,5 @@
 ghost use Rattle.std.specs.Prelude.{◌≡◌, option_copied};
-ghost use Rattle.gw_touch.specs.Same.{same_term, same_operand, same_operands, same_verb, auxiliary_number, same_auxiliary, same_block, same_body, same_statement, same_label, same_atom, same_value, same_part, same_parts, same_type, same_points, same_function, kind_of, atom_of, parts_of, order_number, number_of, bytes_of};
+ghost use Rattle.gw_touch.specs.Same.{same_term, same_operand, same_operands, same_verb, auxiliary_number, same_auxiliary, same_block, same_body, same_statement, same_label, same_atom, same_value, same_part, same_parts, same_type, same_points, same_function, same_first, kind_of, atom_of, parts_of, order_number, number_of, bytes_of};
 ghost use Rattle.gw_expr.specs.Term.{term_of};
 
 use gw_expr::{Atom, Discipline, Expr, Function, FunctionType, Node, Point, Token};
@@ -116,7 +116,8 @@ fn kind(node: &Node) -> u8
         Node::Label(_) => 3,
         Node::Fraction(_) => 4,
         Node::Defined(_) => 5,
-        Node::Order(_) => 6,
+        Node::Table(_) => 6,
+        Node::Order(_) => 7,
     }
 }
 
@@ -165,6 +166,7 @@ fn bytes(node: &Node) -> &[u8]
         Node::Named(name) => name.name().as_bytes(),
         Node::Label(name) => name.as_bytes(),
         Node::Defined(name) => name.name().as_bytes(),
+        Node::Table(name) => name.as_bytes(),
         _ => b"",
     }
 }
@@ -238,4 +240,19 @@ fn same_points(old: &[Point], new: &[Point]) -> bool
     ensures { result ≡ same_points old.now new.now }
 {
     old == new
+}
+
+/// Whether two operand lists begin with one operand, as it is written: it ends in front of a comma.
+#[tactic(auto, using(crate::proofs::SameBlocks::more_bytes_than_none))]
+pub fn same_first(old: &[u8], new: &[u8]) -> bool
+    ensures { result ≡ same_first old.now new.now }
+{
+    match (old, new) {
+        ([], []) => true,
+        ([], [b, ..]) => *b == b',',
+        ([a, ..], []) => *a == b',',
+        ([a, others @ ..], [b, rest @ ..]) => {
+            *a == *b && (*a == b',' || same_first(others, rest))
+        }
+    }
 }

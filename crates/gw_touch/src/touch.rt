@@ -1,10 +1,10 @@
 ghost use Rattle.std.specs.Prelude.{◌≡◌, IfOk, ◌++◌, [], ◌∷◌, Some, None, option_copied};
 ghost use Rattle.gw_meaning.specs.Listing.{definition_of};
-ghost use Rattle.gw_touch.specs.Touching.{touching_of, capacity_probes, definition_slot, other_change, one_name, same_number, same_expression, same_curve, rest_probes, seed_touching, seed_probes, everywhere, given, one_if, label_if, block_slots, block_before, command_from, line_probes, probes_of, splice_probes, block_change, same_seed};
+ghost use Rattle.gw_touch.specs.Touching.{touching_of, capacity_probes, definition_slot, other_change, one_name, same_number, same_expression, same_curve, same_argument, rest_probes, seed_touching, seed_probes, everywhere, given, one_if, label_if, block_slots, block_before, command_from, line_probes, probes_of, splice_probes, block_change, same_seed};
 
 use crate::edit::Edit;
 use crate::lines::{count_commands, last_block, line_at, lines_before, storage_place};
-use crate::same::{same_function, same_label, same_statement, same_term};
+use crate::same::{same_first, same_function, same_label, same_statement, same_term};
 use gw_expr::{Expr, Function};
 use gw_meaning::{Asked, Body, Definition, Item, Numbered, Statement, StatementId};
 use gw_model::Version;
@@ -204,6 +204,9 @@ fn definition_slot(line: &Numbered) -> Result<Option<Probe>, AllocError>
         (Some(name), Some(Definition::Function(_))) => {
             Ok(Some(Probe::One(Item::Named(Asked::Function, name.clone()?))))
         }
+        (Some(name), Some(Definition::Table(_))) => {
+            Ok(Some(Probe::One(Item::Named(Asked::Table, name.clone()?))))
+        }
         _ => Ok(None),
     }
 }
@@ -309,6 +312,10 @@ fn definition_change(
             let same = same_curve(&old.statement, &new.statement, a, b);
             Ok(alone(one_if(!same, Item::Named(Asked::Function, name.clone()?))))
         }
+        (Definition::Table(a), Definition::Table(b)) => {
+            let same = same_argument(&old.statement, &new.statement, &a.argument, &b.argument);
+            Ok(alone(one_if(!same, Item::Named(Asked::Table, name.clone()?))))
+        }
         _ => both_touch(version, place, old, new),
     }
 }
@@ -355,6 +362,12 @@ fn same_curve(old: &Statement, new: &Statement, before: &Function, behind: &Func
     ensures { result ≡ same_curve old.now new.now before.now behind.now }
 {
     old.operands.as_slice() == new.operands.as_slice() && same_function(before, behind)
+}
+
+fn same_argument(old: &Statement, new: &Statement, before: &Expr, behind: &Expr) -> bool
+    ensures { result ≡ same_argument old.now new.now before.now behind.now }
+{
+    same_first(old.operands.as_slice(), new.operands.as_slice()) && same_term(before, behind)
 }
 
 // The storage at a place, if any, with another capacity.

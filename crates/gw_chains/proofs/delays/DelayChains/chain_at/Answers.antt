@@ -1,7 +1,7 @@
 use Rattle.std.proofs.Common.{◌<◌, length, sym, rules}
 use Rattle.std.specs.List.{zip}
 use Rattle.gw_chains.proofs.Beside.{queue_there}
-use Rattle.gw_chains.proofs.Keyed.{within_beside}
+use Rattle.gw_entities.proofs.Keyed.{within_beside}
 use Rattle.gw_chains.proofs.DelayLaws.{place_of_queue}
 use Rattle.gw_chains.proofs.delays.DelayChains.chain_at.Goals as goal
 

@@ -4,7 +4,7 @@ use Rattle.gw_entities.specs.Tables.{with_value}
 use Rattle.gw_meaning.specs.Machine.{Machine}
 use Rattle.gw_chains.specs.Chains.{IsWaitingPlace, delays_of, without_share}
 use Rattle.gw_chains.proofs.Beside.{queue_there, written_delays, written_kept}
-use Rattle.gw_chains.proofs.Keyed.{value_there, within_beside}
+use Rattle.gw_entities.proofs.Keyed.{value_there, within_beside}
 use Rattle.gw_chains.proofs.DelayLaws.{place_of_queue, value_is}
 use Rattle.gw_chains.proofs.LetIn.{some_let_in_is, nobody_let_in, fewer_wait, without_fewer}
 use Rattle.gw_chains.proofs.delays.DelayChains.let_in_some_at.Goals as goal

@@ -4,7 +4,7 @@ use Rattle.gw_entities.specs.Tables.{with_value}
 use Rattle.gw_meaning.specs.Changes.{lined_up}
 use Rattle.gw_chains.specs.Chains.{delays_of}
 use Rattle.gw_chains.proofs.Beside.{queue_there, same_written, same_written_kept, written_delays, written_kept}
-use Rattle.gw_chains.proofs.Keyed.{within_beside}
+use Rattle.gw_entities.proofs.Keyed.{within_beside}
 use Rattle.gw_chains.proofs.DelayLaws.{on_err, one_more_waits, place_there}
 use Rattle.gw_chains.proofs.delays.DelayChains.line_up.Goals as goal
 

@@ -2,7 +2,7 @@ use Rattle.std.proofs.Common.{◌<◌, length, set, sym, subst, rules}
 use Rattle.std.specs.List.{zip}
 use Rattle.gw_chains.specs.Chains.{IsWaitingPlace}
 use Rattle.gw_chains.proofs.Beside.{same_written, same_written_kept}
-use Rattle.gw_chains.proofs.Keyed.{place_written, value_written, within_beside}
+use Rattle.gw_entities.proofs.Keyed.{place_written, value_written, within_beside}
 use Rattle.gw_chains.proofs.DelayLaws.{place_of_queue}
 use Rattle.gw_chains.proofs.delays.DelayChains.reserve_at.Goals as goal
 

@@ -2,7 +2,7 @@ use Rattle.std.proofs.Common.{◌<◌, length, refl, sym, ap, ◌∙◌, rules}
 use Rattle.std.specs.List.{zip}
 use Rattle.gw_chains.specs.Chains.{delays_of, first_of}
 use Rattle.gw_chains.proofs.Beside.{queue_there, same_written, same_written_kept, written_delays, written_kept}
-use Rattle.gw_chains.proofs.Keyed.{within_beside}
+use Rattle.gw_entities.proofs.Keyed.{within_beside}
 use Rattle.gw_chains.proofs.DelayLaws.{some_wait, one_less_waits, place_of_queue}
 use Rattle.gw_chains.proofs.delays.DelayChains.take_first_at.Goals as goal
 

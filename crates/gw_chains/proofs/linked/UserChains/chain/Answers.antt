@@ -1,5 +1,5 @@
 use Rattle.std.proofs.Common.{◌<◌, length, sym, rules}
-use Rattle.gw_chains.proofs.Keyed.{within_beside}
+use Rattle.gw_entities.proofs.Keyed.{within_beside}
 use Rattle.gw_chains.proofs.LinkedLaws.{chain_there}
 use Rattle.gw_chains.proofs.linked.UserChains.chain.Goals as goal
 

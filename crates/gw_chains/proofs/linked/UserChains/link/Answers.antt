@@ -3,7 +3,7 @@ use Rattle.std.specs.List.{zip}
 use Rattle.gw_entities.specs.Tables.{with_value, IsPlace}
 use Rattle.gw_meaning.specs.Changes.{linked_to}
 use Rattle.gw_meaning.specs.Machine.{members_of, user_chain_at, waiting}
-use Rattle.gw_chains.proofs.Keyed.{within_beside}
+use Rattle.gw_entities.proofs.Keyed.{within_beside}
 use Rattle.gw_chains.proofs.LinkedLaws.{chain_there, one_more, written_chain, written_linked}
 use Rattle.gw_chains.proofs.linked.UserChains.link.Goals as goal
 

@@ -1,5 +1,5 @@
 use Rattle.std.proofs.Common.{arith}
-use Rattle.gw_chains.proofs.Keyed.{placed_beside}
+use Rattle.gw_entities.proofs.Keyed.{placed_beside}
 use Rattle.gw_chains.proofs.linked.UserChains.place.Goals as goal
 
 pub returns : goal.returns

@@ -2,7 +2,7 @@ use Rattle.std.proofs.Common.{◌≡◌, ◌-◌, ◌<◌, drop, length, sym, ap
 use Rattle.std.specs.List.{zip}
 use Rattle.gw_entities.specs.Tables.{with_value, IsPlace}
 use Rattle.gw_meaning.specs.Machine.{Machine, UserChain, members_of, user_chain_at, waiting}
-use Rattle.gw_chains.proofs.Keyed.{value_there, within_beside}
+use Rattle.gw_entities.proofs.Keyed.{value_there, within_beside}
 use Rattle.gw_chains.proofs.LinkedLaws.{chain_there, fewer, some_unlinked_is, written_chain, written_linked}
 use Rattle.gw_chains.proofs.linked.UserChains.unlink.Goals as goal
 

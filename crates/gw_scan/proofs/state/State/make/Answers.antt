@@ -21,6 +21,20 @@ returns-in-Command-clause-ok c =
     let done : new ≡ moved s c.args.to = search rules in
     view ∙ unwoken (λ v. new ≡ v) (written s c.args.to) (moved s c.args.to) none done
 
+pub returns-in-Reset-clause-ok : goal.returns-in-Reset-clause-ok
+returns-in-Reset-clause-ok c =
+    let s = c.args.self.now in
+    let none : written s c.args.to ≡ [] = rw c.in-Reset.is refl in
+    let done : OnOk c.reset.result (c.reset.new.self ≡ moved s c.args.to) = search rules in
+    unwoken (λ v. OnOk c.reset.result (c.reset.new.self ≡ v)) (written s c.args.to) (moved s c.args.to) none done
+
+pub returns-in-Clear-clause-ok : goal.returns-in-Clear-clause-ok
+returns-in-Clear-clause-ok c =
+    let s = c.args.self.now in
+    let none : written s c.args.to ≡ [] = rw c.in-Clear.is refl in
+    let done : c.clear.new.self ≡ moved s c.args.to = search rules in
+    unwoken (λ v. c.clear.new.self ≡ v) (written s c.args.to) (moved s c.args.to) none done
+
 pub returns-in-Refuse-clause-ok : goal.returns-in-Refuse-clause-ok
 returns-in-Refuse-clause-ok c =
     let s = c.args.self.now in
