@@ -138,7 +138,8 @@ lined_behind x (y ∷ ys) a order (inl same) equal =
     ∙ (ap (λ p. is_below p x.priority) equal ∙ never_below_itself x.priority) in
     rw level (inl (same, lined_itself x ys))
 lined_behind x (y ∷ ys) a order (inr there) equal =
-    let above : is_below y.priority a.priority ≡ false = all_stands (λ (z : Transaction). is_below y.priority z.priority ≡ false) ys a (not_above ys order.0) there in
+    let above : is_below y.priority a.priority ≡ false =
+    all_stands (λ (z : Transaction). is_below y.priority z.priority ≡ false) ys a (not_above ys order.0) there in
     let level : is_below y.priority x.priority ≡ false = ap (is_below y.priority) (sym equal) ∙ above in
     let rest = lined_behind x ys a order.1 there equal in
     rw level (inr rest)
@@ -258,7 +259,8 @@ waiters_keep_their_order t seed s v is =
 
 -- ---- whom a step wakes
 
-woken_waits_on : (s : Machine) (m : Move) (streams : List Stream) (w : Waiter) → (Clears m → ⊥) → Waits s w → is_woken (written s m) w ≡ false → Waits (decided s m streams) w
+woken_waits_on : (s : Machine) (m : Move) (streams : List Stream) (w : Waiter) → (Clears m → ⊥) → Waits s w → is_woken (written s m) w ≡ false →
+    Waits (decided s m streams) w
 woken_waits_on s m streams w apart there unread =
     let still = stands_filter (waits_on s m) s.retry w (ap not unread) (stands_of s.retry w there) in
     let stands = stands_append (filter (waits_on s m) s.retry) (filter (waits_on s m) (who_comes m s.active)) w still in
@@ -278,7 +280,8 @@ wakes s m streams w apart there is =
     let some = stands_filter (is_woken (written s m)) s.retry w is (stands_of s.retry w there) in
     let all = stands_append (filter (is_woken (written s m)) s.retry) (filter (is_woken (written s m)) (who_comes m s.active)) w some in
     let stands : Stands (who_wakes s m) w = subst (λ ws. Stands ws w) (sym (wake_behind s m apart)) all in
-    contains_of _ w.transaction (all_lined_comes (transactions_of (who_wakes s m)) (moved s m).current w.transaction (stands_transactions (who_wakes s m) w stands))
+    contains_of _ w.transaction (all_lined_comes (transactions_of (who_wakes s m)) (moved s m).current w.transaction
+    (stands_transactions (who_wakes s m) w stands))
 
 pub woken_by_what_is_written : WokenByWhatIsWritten
 woken_by_what_is_written t seed s v w m streams goes is apart there =
@@ -288,7 +291,8 @@ woken_by_what_is_written t seed s v w m streams goes is apart there =
     )
 
 -- whoever waits no longer was woken
-pub was_woken : (s : Machine) (m : Move) (streams : List Stream) (w : Waiter) → (Clears m → ⊥) → Waits s w → (Waits (decided s m streams) w → ⊥) → is_woken (written s m) w ≡ true
+pub was_woken : (s : Machine) (m : Move) (streams : List Stream) (w : Waiter) → (Clears m → ⊥) → Waits s w → (Waits (decided s m streams) w → ⊥) →
+    is_woken (written s m) w ≡ true
 was_woken s m streams w apart there gone = elim (cases_Bool (is_woken (written s m) w)) [
   | inl is ↦ is
   | inr unread ↦ absurd (gone (woken_waits_on s m streams w apart there unread))

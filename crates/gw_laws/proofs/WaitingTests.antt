@@ -430,7 +430,8 @@ module _ (resets : Bool) (t : Listing) (seed : ℕ) where
 
     stored_replies : (f : Store → ℕ) (of : Subject) (more : List Watched) (reply : ℤ) → StaysStored f → Comes (defined_watched kinds.Storage of) more →
         AllIn read more →
-        Comes (defined_prog of (λ key. amount (f (store_at s.entities key)))) reply → Comes (defined_prog of (λ key. amount (f (store_at u.entities key)))) reply
+        Comes (defined_prog of (λ key. amount (f (store_at s.entities key)))) reply →
+        Comes (defined_prog of (λ key. amount (f (store_at u.entities key)))) reply
     stored_replies f subjects.Own more reply same reads all is = λ streams. absurd (let no = is [] in cc)
     stored_replies f (subjects.Number n) more reply same reads all is = λ streams. absurd (let no = is [] in cc)
     stored_replies f (subjects.Name name) more reply same reads all is =
@@ -471,7 +472,8 @@ module _ (resets : Bool) (t : Listing) (seed : ℕ) where
     block_replies f (subjects.Name name) more reply same reads all is =
         counted_replies f (label_at t name) reply same (subst (AllIn read) (sym (given_is (counts_of (label_at t name)) more (reads []))) all) is
 
-    attribute_replies : (class : Class) (of : Subject) (more : List Watched) (reply : ℤ) → lasts_through resets class ≡ true → Comes (watched_prog class of) more →
+    attribute_replies : (class : Class) (of : Subject) (more : List Watched) (reply : ℤ) → lasts_through resets class ≡ true →
+        Comes (watched_prog class of) more →
         AllIn read more → Comes (attribute_prog s (for_one s x) class of) reply → Comes (attribute_prog u (for_one u x) class of) reply
     unfolding attribute_prog watched_prog
     attribute_replies class.F of more reply lasting reads all is =
@@ -640,7 +642,8 @@ module _ (p : ℕ) where
 test_came : (resets : Bool) (t : Listing) (seed : ℕ) (s : Machine) (q : Asker) (id : ℕ) (relation : Auxiliary) (first second : Term) (label : Option Term)
     (read : List Watched) (before after : List Stream) →
     result_of t seed (test_prog s q id relation (Some first) (Some second) label before) ≡ Ok (moves.Watch read, after) →
-    (x y : ℤ) × (holds relation x y ≡ false) × Came resets t seed s q read (operands.value_of first) x × Came resets t seed s q read (operands.value_of second) y
+    (x y : ℤ) × (holds relation x y ≡ false) × Came resets t seed s q read (operands.value_of first) x ×
+    Came resets t seed s q read (operands.value_of second) y
 test_came resets t seed s q id relation first second None read before after is =
     let one' = bind_parts resets t seed (value_traced s q [] (Some first)) _ before (moves.Watch read, after) is in
     let two = bind_parts resets t seed (value_traced s q one'.0.0.1 (Some second)) _ one'.0.1 (moves.Watch read, after) one'.2 in
@@ -716,15 +719,17 @@ was_given s w h waits =
 
 waiting_own : (t : Listing) (s : Machine) (m : Move) (w : Waiter) → s.next < 2 ^ 64 → IsDecided t s m → (Clears m → ⊥) → IsNumbered s → Contains s.retry w →
     OwnStays s m w
-waiting_own t s m w low decided' apart numbered waits key = elim (moved_elsewhere w.transaction.number t s m low (was_given s w numbered waits) decided' apart) [
-  | inl same ↦ ap (λ values. value_of values key) same
-  | inr active ↦ absurd (not_active s w numbered waits active)
-]
+waiting_own t s m w low decided' apart numbered waits key =
+    elim (moved_elsewhere w.transaction.number t s m low (was_given s w numbered waits) decided' apart) [
+      | inl same ↦ ap (λ values. value_of values key) same
+      | inr active ↦ absurd (not_active s w numbered waits active)
+    ]
 
 abbrev Tested : Bool → Listing → ℕ → Machine → Move → Waiter → Type 0
 Tested resets t seed s m w = AtTest resets t seed s w × ((Clears m → ⊥) → OwnStays s m w)
 
-coming_tested : (resets : Bool) (t : Listing) (seed : ℕ) (s : Machine) (m : Move) → IfWatches (IsRefusedAt t seed s) m → AllByRecursion (Tested resets t seed s m) (who_comes m s.active)
+coming_tested : (resets : Bool) (t : Listing) (seed : ℕ) (s : Machine) (m : Move) → IfWatches (IsRefusedAt t seed s) m →
+    AllByRecursion (Tested resets t seed s m) (who_comes m s.active)
 coming_tested resets t seed s (moves.Watch read) r =
     let w : Waiter = record { transaction = r.x; read = read } in
     let own : OwnStays s (moves.Watch read) w = λ key.

@@ -38,7 +38,8 @@ use Rattle.gw_frame.proofs.Decided.{is_decided}
 
 -- ---- where no block is entered
 
-all_wait_and : (s : Machine) (m : Move) (streams : List Stream) → (Clears m → ⊥) → written s m ≡ [] → (decided s m streams).retry ≡ s.retry ++ who_comes m s.active
+all_wait_and : (s : Machine) (m : Move) (streams : List Stream) → (Clears m → ⊥) → written s m ≡ [] →
+    (decided s m streams).retry ≡ s.retry ++ who_comes m s.active
 all_wait_and s m streams apart nothing =
     ap (λ list. (woken list (moved s m)).retry) nothing ∙ (ap (λ (u : Machine). u.retry) (nobody_wakes (moved s m)) ∙ retry_behind s m apart)
 
@@ -87,7 +88,8 @@ waits_or_enters s x (moves.Enter id change fate) streams active h low waits entr
     ap (λ (u : Machine). many has (waiting u.delays)) same ∙ entered_waits_not s x id active h low change fate in
     let nobody = no_other s x id active h low in
     let retry : v.retry ≡ filter (waits_on s m) s.retry = retry_decided s m streams (λ c. c) ∙ append-nil (filter (waits_on s m) s.retry) in
-    let still : many has (transactions_of v.retry) ≡ many has (transactions_of (filter (waits_on s m) s.retry)) = ap (λ ws. many has (transactions_of ws)) retry in
+    let still : many has (transactions_of v.retry) ≡ many has (transactions_of (filter (waits_on s m) s.retry)) =
+    ap (λ ws. many has (transactions_of ws)) retry in
     let parts = waiters_parts has (is_woken (written s m)) s.retry in
     let all = many_append has (waiting v.delays) (transactions_of v.retry) in
     let some = many_has has (waiting v.delays ++ transactions_of v.retry) waits.0 waits.1 (eq-eqb waits.0.number x.number waits.2) in
@@ -168,9 +170,11 @@ crossed_by key (Some units ∷ shares) passed (x ∷ xs) w r there =
     here : (o : Option ℕ) → x.destination ≡ o → Contains v.current (let_in_as x o)
     here o is =
         subst (λ p. Contains v.current (let_in_as x p)) is
-        (subst (λ ys. Contains ys (let_in_as x x.destination)) (sym (let_in_is key x (passed ++ xs) w).current) (lined_has (let_in_as x x.destination) w.current))
+        (subst (λ ys. Contains ys (let_in_as x x.destination)) (sym (let_in_is key x (passed ++ xs) w).current)
+        (lined_has (let_in_as x x.destination) w.current))
 
-    lets : (to : ℕ) → x.destination ≡ Some to → (watched.Counts x.current ≡ r) ⊎ (watched.Counts to ≡ r) → LetsInBy (x ∷ xs) (some_let_in key shares passed xs v) r
+    lets : (to : ℕ) → x.destination ≡ Some to → (watched.Counts x.current ≡ r) ⊎ (watched.Counts to ≡ r) →
+        LetsInBy (x ∷ xs) (some_let_in key shares passed xs v) r
     lets to is counts = record {
       x = x;
       to = to;
@@ -218,7 +222,15 @@ module _ (s : Machine) (x : Transaction) (id : ℕ) (fate : Fate) (active : s.ac
 
     crosses : (block : ℕ) → IsLeftOrEntered lets.x lets.to block → IsChangedBy s v id (changes.Entity change) fate (watched.Counts block)
     crosses block is =
-        let way : LeavesForItsBlock s v lets.x = (change.0, contains_of (delay_at s.delays change.0) lets.x lets.waited, (lets.to, lets.goes, behind (placed lets.x lets.to) lets.stands)) in
+        let way : LeavesForItsBlock s v lets.x = (
+          change.0,
+          contains_of (delay_at s.delays change.0) lets.x lets.waited,
+          (
+            lets.to,
+            lets.goes,
+            behind (placed lets.x lets.to) lets.stands,
+          ),
+        ) in
         inr (lets.x, way, is)
 
     by_counts : (watched.Counts lets.x.current ≡ r) ⊎ (watched.Counts lets.to ≡ r) → IsChangedBy s v id (changes.Entity change) fate r
