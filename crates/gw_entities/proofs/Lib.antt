@@ -1,4 +1,5 @@
 pub mod Anew
+pub mod Blocks
 pub mod Beside
 pub mod ComingLaws
 pub mod Entries

@@ -5,3 +5,4 @@ pub mod Owned
 pub mod Parameters
 pub mod Records
 pub mod Tables
+pub mod Values

@@ -1,4 +1,4 @@
-use Rattle.std.proofs.Common.{◌≡◌, ap, sym, ◌∙◌, rules}
+use Rattle.std.proofs.Common.{◌≡◌, ap, sym, ◌∙◌}
 use Rattle.gw_entities.specs.Owned.{all_of, said_by}
 use Rattle.gw_entities.specs.Parameters.{all_inherited, grouped, values_at}
 use Rattle.gw_entities.proofs.ParameterLaws.{values_grouped}

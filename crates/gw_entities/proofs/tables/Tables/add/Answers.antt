@@ -1,5 +1,4 @@
-use Rattle.std.proofs.Common.{◌≡◌, ◌<◌, ◌++◌, ◌∷◌, [], ℤ, Option, List, length, unwrap_or, sym, ap, subst, ◌∙◌, arith, rules}
-use Rattle.std.proofs.lemmas.List.{length-set}
+use Rattle.std.proofs.Common.{◌≡◌, ◌<◌, ◌++◌, ◌∷◌, [], length, ap, subst, ◌∙◌, arith, rules}
 use Rattle.std.specs.List.{zip}
 use Rattle.gw_entities.specs.Tables.{with_value, IsPlace}
 use Rattle.gw_entities.proofs.Keyed.{set_beside, value_there, within_beside}

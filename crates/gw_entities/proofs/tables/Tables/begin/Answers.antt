@@ -1,10 +1,9 @@
-use Rattle.std.proofs.Common.{◌≡◌, ℤ, ◌++◌, ◌∷◌, [], List, None, length, cond, unwrap_or, sym, ap, ◌∙◌, arith, rules}
+use Rattle.std.proofs.Common.{◌≡◌, ℤ, ◌++◌, ◌∷◌, [], List, None, cond, sym, ap, ◌∙◌, arith, rules}
 use Rattle.std.proofs.lemmas.List.{length-append}
-use Rattle.std.specs.List.{zip, IsDistinct}
+use Rattle.std.specs.List.{zip}
 use Rattle.indexmap.specs.IndexSet.{insert_key}
-use Rattle.gw_names.specs.declared.key.Key.{Key}
 use Rattle.gw_names.specs.Keys.{key_eq}
-use Rattle.gw_entities.specs.Tables.{value_of, with_value}
+use Rattle.gw_entities.specs.Tables.{value_of}
 use Rattle.gw_entities.proofs.Entries.{pushed_is}
 use Rattle.gw_entities.proofs.Keyed.{no_key_beside, zip_more, apart_beside}
 use Rattle.gw_entities.proofs.tables.Tables.begin.Goals as goal
