@@ -39,4 +39,5 @@ split_else id (node.Named name) (suc k) some other = refl
 split_else id (node.Label name) (suc k) some other = absurd (other name refl)
 split_else id (node.Fraction millionths) (suc k) some other = refl
 split_else id (node.Defined name) (suc k) some other = refl
+split_else id (node.Table name) (suc k) some other = refl
 split_else id (node.Order discipline) (suc k) some other = refl
