@@ -3,7 +3,6 @@ pub mod Fronts
 pub mod ByLines
 pub mod LineLaws
 pub mod ChangeLaws
-pub mod Splits
 pub mod Seeds
 pub mod Made
 pub mod Untouching
