@@ -7,6 +7,7 @@ pub mod Seeds
 pub mod Made
 pub mod Untouching
 pub mod CapacityLaws
+pub mod TouchedLaws
 pub mod RebaseLaws
 pub mod PositionLaws
 pub mod SpelledLaws

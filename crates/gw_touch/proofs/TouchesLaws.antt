@@ -130,7 +130,7 @@ found_storage name n (line ∷ lines) (suc index) at =
     ap (λ b. cond b (Some n) (storage_in name (n + 1) lines)) none ∙ (rest ∙ ap (λ k. Some k) (omega arith))
 
 -- of places, from 1
-place_found : (t : Listing) (name : List ℕ) (place : ℕ) → storage_place name t ≡ Some place → FirstStorage t name place
+pub place_found : (t : Listing) (name : List ℕ) (place : ℕ) → storage_place name t ≡ Some place → FirstStorage t name place
 place_found t name place h =
     let found = storage_found name 1 t.lines place h in
     let at = found.1 in
