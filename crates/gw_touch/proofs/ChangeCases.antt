@@ -243,14 +243,6 @@ one_verb name (definitions.Function f) (definitions.Function g) h = tt
 one_verb name (definitions.Table f) (definitions.Table g) h = tt
 one_verb name d e h = absurd cc
 
-two_one : (old new : Statement) (name : List ℕ) (d e : Definition) (asked : Asked) → OfTwo old new d e asked → AreOne (Some name) (Some d) (Some e)
-two_one old new name _ _ _ (other_amount from to units holds) = tt
-two_one old new name _ _ _ (other_units from to apart) = tt
-two_one old new name _ _ _ (other_value m n differ) = tt
-two_one old new name _ _ _ (other_expression d e differ) = tt
-two_one old new name _ _ _ (other_curve f g differ) = tt
-two_one old new name _ _ _ (other_argument f g differ) = tt
-
 -- what two of one verb say is of one verb
 verbs_one : (name : List ℕ) (d e : Definition) → AreOne (Some name) (Some d) (Some e) → verb_of_definition d ≡ verb_of_definition e
 verbs_one name (definitions.Storage from) (definitions.Storage to) h = refl
