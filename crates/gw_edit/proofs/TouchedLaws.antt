@@ -1,5 +1,5 @@
 -- What an edit touches, the version before and the edited version answer in two ways, but for what is named.
-use Rattle.std.proofs.Common.{◌≡◌, ℕ, ◌+◌, ◌-◌, ◌<◌, ◌≤◌, true, false, cond, Bool, List, ◌∷◌, [], ◌++◌, Option, Some, None, Ok, length, refl, sym, subst, ◌∙◌, arith}
+use Rattle.std.proofs.Common.{◌≡◌, ℕ, ◌+◌, ◌≤◌, true, false, cond, Bool, List, ◌∷◌, [], ◌++◌, Option, Some, None, Ok, length, refl, sym, subst, ◌∙◌, arith}
 use Rattle.gw_meaning.specs.declared.statement.Replication.{Replication}
 use Rattle.gw_meaning.specs.Listing.{Listing}
 use Rattle.gw_lines.specs.Edits.{edit_of}
