@@ -24,7 +24,7 @@ use Rattle.gw_touch.specs.Touching.{is_capacity, storage_in, storage_place, is_t
 use Rattle.gw_edit.specs.Applied as by
 use Rattle.gw_edit.specs.Capacities.{CapacityTouchesWhatDiffers}
 use Rattle.gw_edit.proofs.Made.{checked_gives, other_side, storage_found}
-use Rattle.gw_edit.proofs.Splits.{gone_at, nth_between}
+use Rattle.gw_touch.proofs.Splits.{gone_at, nth_between}
 
 -- a statement gives the storage of a name its units, and none in front of it does
 pub record Gives (name : List ℕ) (lines : List Numbered) (n place : ℕ) : Type 0 where

@@ -3,11 +3,11 @@ pub mod Fronts
 pub mod ByLines
 pub mod LineLaws
 pub mod ChangeLaws
-pub mod Splits
 pub mod Seeds
 pub mod Made
 pub mod Untouching
 pub mod CapacityLaws
+pub mod TouchedLaws
 pub mod RebaseLaws
 pub mod PositionLaws
 pub mod SpelledLaws

@@ -20,7 +20,7 @@ use Rattle.gw_lines.specs.Printed.{storage_of}
 use Rattle.gw_edit.specs.Applied.{applied, checked, unless_faulty, or_refusal, reseeded, without_number, has_replication, capacity_at}
 use Rattle.gw_edit.specs.InPositions.{front_of, deleted_of, inserted_of, front_at, line_there}
 use Rattle.gw_edit.proofs.Seeds.{seed_in_front, seed_reseeded, seed_without}
-use Rattle.gw_edit.proofs.Splits.{place_in}
+use Rattle.gw_touch.proofs.Splits.{place_in}
 
 -- the parts of an edit that was made
 unless_gives : (o : Option ModelFault) (v u : Listing) → unless_faulty o v ≡ Ok u → v ≡ u

@@ -19,7 +19,7 @@ use Rattle.gw_touch.specs.declared.edit.Edit.{Edit}
 use Rattle.gw_touch.specs.Touching.{touch_of, is_touched, lines_before}
 use Rattle.gw_edit.specs.Applied.{applied}
 use Rattle.gw_edit.specs.InPositions.{front_of, deleted_of, inserted_of, EditInPositions}
-use Rattle.gw_edit.proofs.Splits.{nth_between, gone_at}
+use Rattle.gw_touch.proofs.Splits.{nth_between, gone_at}
 use Rattle.gw_edit.proofs.Made.{deleted_at, inserted_at, IsSpliced, IsLeft, made_by}
 use Rattle.gw_edit.proofs.Untouching.{untouched_alike}
 use Rattle.gw_edit.proofs.RebaseLaws.{none_touched}

@@ -22,7 +22,7 @@ use Rattle.gw_touch.specs.declared.edit.Edit.TheVariants as edits
 use Rattle.gw_touch.specs.Touching.{is_capacity, storage_in, storage_place}
 use Rattle.gw_edit.specs.Applied.{capacity_at, checked, has_replication, reseeded, spelled_by, without_number}
 use Rattle.gw_edit.specs.Spelled.{AreSpelled, EditsAreSpelled}
-use Rattle.gw_edit.proofs.Splits.{place_in}
+use Rattle.gw_touch.proofs.Splits.{place_in}
 use Rattle.gw_edit.proofs.Made.{checked_gives, of_read, one_side, other_side}
 
 abbrev LineIsSpelled : Numbered → Type 0

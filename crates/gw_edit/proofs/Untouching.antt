@@ -18,7 +18,7 @@ use Rattle.gw_edit.specs.Untouched.{UntouchedAlike}
 use Rattle.gw_edit.proofs.ByLines.{untouched_both, changed_line}
 use Rattle.gw_edit.proofs.LineLaws.{line_alike}
 use Rattle.gw_edit.proofs.ChangeLaws.{change_alike}
-use Rattle.gw_edit.proofs.Splits.{nth_between, fresh_line, come_parts, gone_at}
+use Rattle.gw_touch.proofs.Splits.{nth_between, fresh_line, come_parts, gone_at}
 use Rattle.gw_edit.proofs.Made.{deleted_at, inserted_at, IsSpliced, IsLeft, made_by, one_seed}
 
 -- what two versions answer alike in a replication, where this is touched

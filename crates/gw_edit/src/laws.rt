@@ -3,7 +3,7 @@ ghost use Rattle.gw_edit.specs.Capacities.{CapacityTouchesWhatDiffers};
 ghost use Rattle.gw_edit.specs.InPositions.{EditInPositions};
 ghost use Rattle.gw_edit.specs.Outcomes.{EditsMake};
 ghost use Rattle.gw_edit.specs.Spelled.{EditsAreSpelled};
-ghost use Rattle.gw_edit.specs.Untouched.{UntouchedAlike};
+ghost use Rattle.gw_edit.specs.Untouched.{TouchedDiffers, UntouchedAlike};
 
 /// Each edit changes of a version what it names and leaves the rest: the changed version is made where it has no fault,
 /// and refused for its first one, and where there is nothing to change it is refused for that. An insert or a change puts
@@ -16,6 +16,13 @@ pub fn edits_make()
 /// have.
 pub fn untouched()
     ensures { UntouchedAlike }
+{}
+
+/// What an edit touches, a version and its edited version answer in two ways, but for what is named: commands, what is
+/// written otherwise and read as it was, what comes after a last block, what is asked of a storage that is inserted,
+/// deleted or renamed, and times beyond both horizons.
+pub fn touched_differs()
+    ensures { TouchedDiffers }
 {}
 
 /// An edit of a capacity touches only what it would change: whatever it touches, the two versions answer in two ways.

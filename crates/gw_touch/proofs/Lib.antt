@@ -1,3 +1,13 @@
 pub mod Places
 pub mod SameBlocks
 pub mod TouchLaws
+pub mod Splits
+pub mod SameItself
+pub mod SlotLaws
+pub mod OneLaws
+pub mod ChangeCases
+pub mod TouchesLaws
+pub mod OwnLines
+pub mod BesideLaws
+pub mod ChangeDiffers
+pub mod AlikeLaws
