@@ -4,4 +4,6 @@ pub mod Reporting
 pub mod Turning
 pub mod Refusing
 pub mod Opened
+pub mod Rightly
+pub mod Playing
 pub mod Showing

@@ -11,7 +11,7 @@ use Rattle.gw_script.specs.declared.fault.Over.TheVariants as overs
 use Rattle.gw_script.specs.declared.fault.Fault.{Fault}
 use Rattle.gw_script.specs.declared.fault.Fault.TheVariants as faults
 use Rattle.gw_script.specs.Replying.{is_quit, untold_of}
-use Rattle.gw_script.specs.Sessions.{Says, nothing, line, last, quit, last_quit, IsAllRead, end_calls, Serves, Stops, StopsBy, AreFed, IsLastLine, IsUnanswered, in_reading, in_answering}
+use Rattle.gw_script.specs.Sessions.{Says, nothing, line, last, quit, last_quit, IsReadWhole, with_its_line_feed, at_the_end, IsOverAt, Serves, Stops, StopsBy, AreFed, IsLastLine, IsUnanswered, in_reading, in_answering}
 use Rattle.gw_script.specs.Turns.{Writes, BreaksOff, BreaksBy, IsSilent, stopped_by, over_if}
 
 -- after some lines over the keeper b, before line n over the keeper d
@@ -36,9 +36,14 @@ turned_none answers took wrote b source sink x y =
 fed_behind : (front lines : List ℕ) → AreFed lines → AreFed (front ++ lines)
 fed_behind front lines h = (front ++ h.0, ap (λ l. front ++ l) h.1 ∙ sym (append_assoc front h.0 (10 ∷ [])))
 
-fed_or_ended : (front lines : List ℕ) (ended : Type 0) → AreFed lines ⊎ ended → AreFed (front ++ lines) ⊎ ended
-fed_or_ended front lines ended (inl fed) = inl (fed_behind front lines fed)
-fed_or_ended front lines ended (inr end) = inr end
+-- a line that was read whole, behind others
+whole_behind : (front lines : List ℕ) (ended : Type 0) (idle : ℕ) → IsReadWhole ended lines idle → IsReadWhole ended (front ++ lines) idle
+whole_behind front lines ended idle (with_its_line_feed fed none) = with_its_line_feed (fed_behind front lines fed) none
+whole_behind front lines ended idle (at_the_end end one) = at_the_end end one
+
+over_behind : (front lines : List ℕ) (ended : Type 0) (over : Over) (idle : ℕ) → IsOverAt ended lines over idle → IsOverAt ended (front ++ lines) over idle
+over_behind front lines ended overs.Quit idle whole = whole_behind front lines ended idle whole
+over_behind front lines ended overs.InputEnd idle ends = ends
 
 -- answering breaks off where the writer failed or a growth was refused
 answer_fault : (fault : Fault) (writes writes' : ℕ) → BreaksBy fault writes writes' → (fault ≡ faults.Write) ⊎ (fault ≡ faults.Memory)
@@ -141,17 +146,18 @@ module _ {D S K : Type 0} (answers : D → ℕ → List ℕ → List ℕ → D �
   module _ (reads_of : S → ℕ) (writes_of : K → ℕ) {b d : D} {n left : ℕ} {source s s' : S} {sink k : K}
       (before : Turned answers took wrote b d n left source s sink k) where
     -- the last turn: something is said to what it reads, and it is written
-    pub serves_last : {final : D} {k' : K} (ended : S → Type 0) (bytes front : List ℕ) (over : Over) → took s bytes s' → wrote k front k' →
-        Says answers d n bytes front over final → IsAllRead (ended s') over →
-        length bytes + end_calls over ≤ left → reads_of s' ≡ reads_of source → writes_of k' ≡ writes_of sink →
+    pub serves_last : {final : D} {k' : K} (ended : S → Type 0) (bytes front : List ℕ) (over : Over) (idle : ℕ) → took s bytes s' → wrote k front k' →
+        Says answers d n bytes front over final → IsOverAt (ended s') bytes over idle →
+        length bytes + idle ≤ left → reads_of s' ≡ reads_of source → writes_of k' ≡ writes_of sink →
         Serves answers took ended reads_of wrote writes_of b source s' sink k' final over
-    serves_last {final} {k'} ended bytes front over taken written says all few read_well wrote_well = record {
+    serves_last {final} {k'} ended bytes front over idle taken written says ends few read_well wrote_well = record {
       input = before.input ++ bytes;
       output = before.output ++ front;
       taken = took_on source s s' before.input bytes before.taken taken;
       written = wrote_on sink k k' before.output front before.written written;
       says = before.onward bytes front over final says;
-      all_read = all;
+      idle = idle;
+      ends = over_behind before.input bytes (ended s') over idle ends;
       calls = omega (arith, before.spent, few, length-append before.input bytes);
       read_well = read_well;
       wrote_well = wrote_well;
@@ -181,19 +187,20 @@ module _ {D S K : Type 0} (answers : D → ℕ → List ℕ → List ℕ → D �
         }
 
     -- answering a line that was read whole broke off
-    pub stops_answering : (ended : S → Type 0) {k' : K} {after : D} (bytes text : List ℕ) → AreFed bytes ⊎ ended s' →
+    pub stops_answering : (ended : S → Type 0) {k' : K} {after : D} (bytes text : List ℕ) (idle : ℕ) → IsReadWhole (ended s') bytes idle →
         ((earlier : List ℕ) → IsLastLine earlier text (earlier ++ bytes)) → (over : Over) (fault : Fault) →
-        reads_of s' ≡ reads_of source → writes_of k ≡ writes_of sink → length bytes ≤ left → took s bytes s' →
+        reads_of s' ≡ reads_of source → writes_of k ≡ writes_of sink → length bytes + idle ≤ left → took s bytes s' →
         (broken : BreaksOff wrote writes_of (answers d n text) (untold_of (request_of text)) d k k' after fault) →
         Says answers d n bytes (broken.front ++ broken.left) over after →
         Stops answers took ended reads_of wrote writes_of b source s' sink k' after fault
-    stops_answering ended {k'} {after} bytes text whole last_line over fault read_well same fits taken broken says =
+    stops_answering ended {k'} {after} bytes text idle whole last_line over fault read_well same fits taken broken says =
         let input : List ℕ = before.input ++ bytes in
         let C : ℕ → Type 0 = λ w. BreaksBy fault w (writes_of k') in
         let O : List ℕ → Type 0 = λ o. Says answers b 1 input o over after in
         let T : List ℕ → Type 0 = λ i. took source i s' in
         let L : List ℕ → Type 0 = λ i. StopsBy fault (reads_of source) (reads_of s') (writes_of sink) (writes_of k') (length i) in
-        let few : length input ≤ 16777216 = omega (arith, before.spent, fits, length-append before.input bytes) in
+        let calls : length input + idle ≤ 16777216 = omega (arith, before.spent, fits, length-append before.input bytes) in
+        let few : length input ≤ 16777216 = omega (arith, calls) in
         record {
           input = input;
           broken = [];
@@ -204,18 +211,14 @@ module _ {D S K : Type 0} (answers : D → ℕ → List ℕ → List ℕ → D �
           written = wrote_on sink k k' before.output broken.front before.written broken.written;
           says = subst O (sym (append_assoc before.output broken.front broken.left))
               (before.onward bytes (broken.front ++ broken.left) over after says);
-          place = in_answering (answer_fault fault (writes_of k) (writes_of k') broken.cause) (fed_or_ended before.input bytes (ended s') whole) refl;
+          place = in_answering (answer_fault fault (writes_of k) (writes_of k') broken.cause) idle
+              (whole_behind before.input bytes (ended s') idle whole) calls refl;
           cause = subst L (sym (append-nil input))
               (stop_cause fault (reads_of source) (reads_of s') (writes_of sink) (writes_of k') (length input) read_well few (subst C same broken.cause));
           silent = λ memory. inr (unanswered_at before bytes text last_line broken.front (broken.silent memory));
         }
 
--- the end of the input was found, however the session ends behind it
-pub all_read_if : (q : Bool) (E : Type 0) → E → IsAllRead E (over_if q)
-all_read_if true E e = tt
-all_read_if false E e = e
-
--- at most one call found it
-pub end_calls_if : (q : Bool) → end_calls (over_if q) ≤ 1
-end_calls_if true = omega arith
-end_calls_if false = omega arith
+-- the end of the input was found by one call, however the session ends behind it
+pub ended_if : (q : Bool) (ended : Type 0) (input : List ℕ) → ended → IsOverAt ended input (over_if q) 1
+ended_if true ended input end = at_the_end end refl
+ended_if false ended input end = (end, refl)

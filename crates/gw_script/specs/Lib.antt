@@ -5,6 +5,7 @@ pub mod Printing
 pub mod Replying
 pub mod Turns
 pub mod Sessions
+pub mod Played
 pub use Rattle.gw_desk.specs.Book
 pub use Rattle.gw_io.specs.Failures
 pub use Rattle.gw_io.specs.Line

@@ -1,5 +1,5 @@
 -- What a script line is answered, and what it leaves of the keeper of the version. (The table of script lines.)
-use Rattle.std.specs.Prelude.{◌≡◌, ◌⊎◌, ℕ, Bool, true, false, IsTrue, List, [], ◌++◌, Option, Some, None, MatchOption, codes, decimal}
+use Rattle.std.specs.Prelude.{◌≡◌, ◌⊎◌, ℕ, Bool, true, false, IsTrue, List, [], ◌∷◌, ◌++◌, Option, Some, None, MatchOption, length, codes, decimal}
 use Rattle.gw_request.specs.declared.request.Request.{Request}
 use Rattle.gw_request.specs.declared.request.Request.TheVariants as requests
 use Rattle.gw_request.specs.declared.request.Reason.{Reason}
@@ -10,6 +10,7 @@ use Rattle.gw_desk.specs.declared.play.Event.{Event}
 use Rattle.gw_desk.specs.declared.play.Event.TheVariants as events
 use Rattle.gw_desk.specs.declared.play.Reply.{Reply}
 use Rattle.gw_desk.specs.Book.{Book}
+use Rattle.gw_desk.specs.Headline.{AreRight, IsPrinted}
 use Rattle.gw_desk.specs.Playing.{Does}
 use Rattle.gw_script.specs.Answers.{Queries, ReportsAll}
 use Rattle.gw_script.specs.Changes.{Edits}
@@ -74,6 +75,12 @@ pub data Answers {D : Type 0} (version : D → Listing) (does : D → Event → 
   unread : IsTrue (may_want_memory line) → front ≡ codes "refused E7\n" → d' ≡ d →
       Answers version does d n line front d'
 
+-- one event over a desk, which does what its calls do; and its reply is right, as the headline says: a report is that
+-- of the model that `list` prints, read anew and run from zero
+abbrev pub DoesRight : Book → Event → Reply → Book → Type 0
+DoesRight b event reply c =
+    Does b event reply c × AreRight IsPrinted b.version (length b.edits) (event ∷ []) (reply ∷ [])
+
 -- what may be answered over a desk
 abbrev pub DeskAnswers : Book → ℕ → List ℕ → List ℕ → Book → Type 0
-DeskAnswers = Answers (λ (b : Book). b.version) Does
+DeskAnswers = Answers (λ (b : Book). b.version) DoesRight

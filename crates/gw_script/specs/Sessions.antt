@@ -28,18 +28,23 @@ pub data Says {D : Type 0} (answers : D → ℕ → List ℕ → List ℕ → D 
   last_quit : (d d' : D) (n : ℕ) (line front : List ℕ) → IsUnended line → is_quit (request_of line) ≡ true →
       answers d n line front d' → Says answers d n line front overs.Quit d'
 
--- a session that ends with the input has read all of it
-abbrev pub IsAllRead : Type 0 → Over → Type 0
-IsAllRead ended overs.Quit = Unit {0}
-IsAllRead ended overs.InputEnd = ended
+-- whole lines, one at least, with a line feed behind the last
+abbrev pub AreFed : List ℕ → Type 0
+AreFed lines = (front : List ℕ) × (lines ≡ front ++ 10 ∷ [])
 
--- the call of read that found the end of the input
-abbrev pub end_calls : Over → ℕ
-end_calls overs.Quit = 0
-end_calls overs.InputEnd = 1
+-- the last line of an input was read whole, and so many calls of read gave no byte: a line feed stands behind it, and
+-- no call came behind that; or the input ended behind it, as one call found
+pub data IsReadWhole (ended : Type 0) (input : List ℕ) (idle : ℕ) : Type 0 where
+  with_its_line_feed : AreFed input → idle ≡ 0 → IsReadWhole ended input idle
+  at_the_end : ended → idle ≡ 1 → IsReadWhole ended input idle
+
+-- how a session comes to its end: by `quit`, a line that was read whole, or by the end of the input
+abbrev pub IsOverAt : Type 0 → List ℕ → Over → ℕ → Type 0
+IsOverAt ended input overs.Quit idle = IsReadWhole ended input idle
+IsOverAt ended input overs.InputEnd idle = ended × (idle ≡ 1)
 
 -- a session read an input, wrote what is said to it, and left the keeper as that leaves it; neither reader nor writer
--- failed, and at most 16,777,216 calls of read were made
+-- failed, and at most 16,777,216 calls of read were made, one for each byte and `idle` that gave none
 pub record Serves {D S K : Type 0} (answers : D → ℕ → List ℕ → List ℕ → D → Type 0)
     (took : S → List ℕ → S → Type 0) (ended : S → Type 0) (reads : S → ℕ) (wrote : K → List ℕ → K → Type 0)
     (writes : K → ℕ)
@@ -49,8 +54,9 @@ pub record Serves {D S K : Type 0} (answers : D → ℕ → List ℕ → List �
   pub taken : took source input source'
   pub written : wrote sink output sink'
   pub says : Says answers d 1 input output over d'
-  pub all_read : IsAllRead (ended source') over
-  pub calls : length input + end_calls over ≤ 16777216
+  pub idle : ℕ
+  pub ends : IsOverAt (ended source') input over idle
+  pub calls : length input + idle ≤ 16777216
   pub read_well : reads source' ≡ reads source
   pub wrote_well : writes sink' ≡ writes sink
 
@@ -66,18 +72,13 @@ StopsBy faults.Write reads reads' writes writes' taken =
 StopsBy faults.ReadLimit reads reads' writes writes' taken = (reads' ≡ reads) × (writes' ≡ writes) × (taken ≡ 16777216)
 StopsBy faults.Memory reads reads' writes writes' taken = (reads' ≡ reads) × (writes' ≡ writes) × (taken ≤ 16777216)
 
--- whole lines, one at least, with a line feed behind the last
-abbrev pub AreFed : List ℕ → Type 0
-AreFed lines = (front : List ℕ) × (lines ≡ front ++ 10 ∷ [])
-
 -- where a session stopped. While it read a line: what was read of it, `broken`, is no line, and all that is said to the
--- lines before it was written. Or while it answered one that was read whole: a line feed stands behind it, or it is the
--- last of an input that ended
+-- lines before it was written. Or while it answered one that was read whole, by calls that were left
 pub data StopsAt (ended : Type 0) (input broken left : List ℕ) (over : Over) (fault : Fault) : Type 0 where
   in_reading : (cause : ReadFault) → fault ≡ stopped_by cause → (input ≡ []) ⊎ AreFed input → IsUnended broken →
       left ≡ [] → over ≡ overs.InputEnd → StopsAt ended input broken left over fault
-  in_answering : (fault ≡ faults.Write) ⊎ (fault ≡ faults.Memory) → AreFed input ⊎ ended → broken ≡ [] →
-      StopsAt ended input broken left over fault
+  in_answering : (fault ≡ faults.Write) ⊎ (fault ≡ faults.Memory) → (idle : ℕ) → IsReadWhole ended input idle →
+      length input + idle ≤ 16777216 → broken ≡ [] → StopsAt ended input broken left over fault
 
 -- the last line of an input, and what stands in front of it
 pub data IsLastLine : List ℕ → List ℕ → List ℕ → Type 0 where

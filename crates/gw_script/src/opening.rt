@@ -1,5 +1,6 @@
 // From a model's bytes and the options to a desk.
 ghost use Rattle.std.specs.Prelude.{◌≡◌, ◌≤◌, IfOk, IfErr};
+ghost use Rattle.gw_desk.specs.Book.{IsBook};
 ghost use Rattle.gw_script.specs.Opening.{Opens, OpensVersion, Refuses, fault_of_line};
 
 use crate::fault::Fault;
@@ -36,6 +37,7 @@ impl Options {
 pub fn open(alloc: Global, model: &[u8], options: Options) -> Result<Desk, Fault>
     requires { 1 ≤ options.every }
     ensures opens { IfOk result (Opens model.now options) }
+    ensures desk { IfOk result IsBook }
     ensures refuses { IfErr result (Refuses model.now options) }
 {
     let version = open_version(alloc, model, options)?;

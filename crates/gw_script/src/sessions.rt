@@ -16,9 +16,10 @@ use gw_io::{Budget, Line, Sink, Source, read_line, without_cr, write_all};
 use gw_request::{Request, request_of};
 use std::alloc::Global;
 
-/// Answers the lines of a script over a keeper of a version, up to `quit` or the end of the input. At most 16,777,216
-/// calls of read are made. Behind a fault what was written stays, the keeper is as the lines read so far left it, and
-/// the session is over.
+/// Answers the lines of a script over a keeper of a version, up to `quit` or the end of the input. A line is answered,
+/// and `quit` ends the session, once its line feed is read or the end of the input is found behind it. At most
+/// 16,777,216 calls of read are made. Behind a fault what was written stays, the keeper is as the lines read so far
+/// left it, and the session is over.
 ///
 /// # Errors
 ///
@@ -55,6 +56,10 @@ pub fn session_on<D: Keeper, S: Source, K: Sink>(
 }
 
 /// Opens a model and answers a script over it: F1 or F2 where the model is refused, with nothing read or written.
+///
+/// What is written are the bytes of the replies of a [`Desk`](crate::Desk) to the edits and queries of the script, and
+/// each of them is right: a report is, byte for byte, that of the model that `list` prints, read anew and run from
+/// zero; a refused edit changes nothing.
 pub fn session<S: Source, K: Sink>(
     alloc: Global,
     model: &[u8],

@@ -4,10 +4,10 @@ use Rattle.gw_io.specs.Line.{without_cr_of}
 use Rattle.gw_request.specs.Requests.{request_of}
 use Rattle.gw_script.specs.declared.fault.Over.TheVariants as overs
 use Rattle.gw_script.specs.Replying.{Answers, is_quit}
-use Rattle.gw_script.specs.Sessions.{nothing, quit, with_line_feed, without_line_feed, Stops}
+use Rattle.gw_script.specs.Sessions.{nothing, quit, with_its_line_feed, at_the_end, with_line_feed, without_line_feed, Stops}
 use Rattle.gw_script.specs.Turns.{over_if, stopped_by}
 use Rattle.gw_script.proofs.Answering.{if_err_at}
-use Rattle.gw_script.proofs.Turning.{turned_none, turned_line, serves_last, stops_reading, stops_answering, says_whole, says_last, all_read_if, end_calls_if}
+use Rattle.gw_script.proofs.Turning.{turned_none, turned_line, serves_last, stops_reading, stops_answering, says_whole, says_last, ended_if}
 use Rattle.gw_script.proofs.sessions.session_on.Goals as goal
 
 pub lines-init : goal.lines-init
@@ -44,7 +44,8 @@ returns-in_err-reply-in-Whole-clause-stops g c =
     let b = rw w at c.in_err-reply-in-Whole.ensures.err in
     let said = says_whole answers c.lines.keeper c.reply.new.keeper (c.lines.n + 1) text (b.front ++ b.left) at.line b.answers in
     let stops = stops_answering answers g.S.Source.took g.K.Sink.wrote g.met.S.Source.onward g.met.K.Sink.onward g.S.Source.failures g.K.Sink.failures
-    known.turned g.S.Source.ended (text ++ 10 ∷ []) (without_cr_of text) (inl (text, refl)) (λ earlier. with_line_feed earlier text at.line)
+    known.turned g.S.Source.ended (text ++ 10 ∷ []) (without_cr_of text) 0 (with_its_line_feed (text, refl) refl)
+    (λ earlier. with_line_feed earlier text at.line)
     said.0 fault (at.uncounted ∙ known.reads) known.writes
     (omega (arith, at.spent, length-append text (10 ∷ []))) at.taken b said.1 in
     if_err_at exit.result (Stops answers g.S.Source.took g.S.Source.ended g.S.Source.failures g.K.Sink.wrote g.K.Sink.failures c.args.keeper.now
@@ -61,8 +62,9 @@ returns-then-branch-clause-serves g c =
     ap (λ l. is_quit (request_of l)) (sym w) ∙ (sym c.in_ok-reply-in-Whole.ensures.quit ∙ c.if-branch.true) in
     let known = c.lines.invariant in
     serves_last answers g.S.Source.took g.K.Sink.wrote g.met.S.Source.onward g.met.K.Sink.onward g.S.Source.failures g.K.Sink.failures known.turned
-    g.S.Source.ended (text ++ 10 ∷ []) r.front overs.Quit at.taken r.written
-    (quit c.lines.keeper c.reply.new.keeper (c.lines.n + 1) text r.front at.line q r.answers) tt (omega (arith, at.spent, length-append text (10 ∷ [])))
+    g.S.Source.ended (text ++ 10 ∷ []) r.front overs.Quit 0 at.taken r.written
+    (quit c.lines.keeper c.reply.new.keeper (c.lines.n + 1) text r.front at.line q r.answers)
+    (with_its_line_feed (text, refl) refl) (omega (arith, at.spent, length-append text (10 ∷ [])))
     (at.uncounted ∙ known.reads) (c.in_ok-reply-in-Whole.ensures.same ∙ known.writes)
 
 pub lines-preserved : goal.lines-preserved
@@ -86,8 +88,8 @@ returns-in-End-clause-serves g c =
     let known = c.lines.invariant in
     serves_last (Answers g.D.Keeper.version g.D.Keeper.does)
     g.S.Source.took g.K.Sink.wrote g.met.S.Source.onward g.met.K.Sink.onward g.S.Source.failures g.K.Sink.failures known.turned g.S.Source.ended [] []
-    overs.InputEnd at.taken
-    (g.met.K.Sink.nothing c.lines.sink) (nothing c.lines.keeper (c.lines.n + 1)) at.line (omega (arith, at.spent)) (at.uncounted ∙ known.reads) known.writes
+    overs.InputEnd 1 at.taken (g.met.K.Sink.nothing c.lines.sink) (nothing c.lines.keeper (c.lines.n + 1)) (at.line, refl)
+    (omega (arith, at.spent)) (at.uncounted ∙ known.reads) known.writes
 
 pub returns-in_err-quit-in-Last-clause-stops : goal.returns-in_err-quit-in-Last-clause-stops
 returns-in_err-quit-in-Last-clause-stops g c =
@@ -101,7 +103,7 @@ returns-in_err-quit-in-Last-clause-stops g c =
     let b = rw c.deref-in-Last.ensures.value at c.in_err-quit-in-Last.ensures.err in
     let said = says_last answers c.lines.keeper c.reply-in-Last.new.keeper (c.lines.n + 1) text (b.front ++ b.left) at.line.0 b.answers in
     let stops = stops_answering answers g.S.Source.took g.K.Sink.wrote g.met.S.Source.onward g.met.K.Sink.onward g.S.Source.failures g.K.Sink.failures
-    known.turned g.S.Source.ended text text (inr at.line.2) (λ earlier. without_line_feed earlier text at.line.0)
+    known.turned g.S.Source.ended text text 1 (at_the_end at.line.2 refl) (λ earlier. without_line_feed earlier text at.line.0)
     (over_if (is_quit (request_of text))) fault (at.uncounted ∙ known.reads) known.writes
     (omega (arith, at.spent)) at.taken b said in
     if_err_at exit.result (Stops answers g.S.Source.took g.S.Source.ended g.S.Source.failures g.K.Sink.wrote g.K.Sink.failures c.args.keeper.now
@@ -115,10 +117,9 @@ returns-in-Last-clause-serves g c =
     let r = rw c.deref-in-Last.ensures.value at c.in_ok-quit-in-Last.ensures.ok in
     let q = rw c.deref-in-Last.ensures.value at c.in_ok-quit-in-Last.ensures.quit in
     let said = says_last answers c.lines.keeper c.reply-in-Last.new.keeper (c.lines.n + 1) text r.front at.line.0 r.answers in
-    let all = all_read_if (is_quit (request_of text)) (g.S.Source.ended c.read_line.new.source) at.line.2 in
+    let ends = ended_if (is_quit (request_of text)) (g.S.Source.ended c.read_line.new.source) text at.line.2 in
     let known = c.lines.invariant in
-    let one = end_calls_if (is_quit (request_of text)) in
     rw (c.over_if.ensures, q)
     (serves_last answers g.S.Source.took g.K.Sink.wrote g.met.S.Source.onward g.met.K.Sink.onward g.S.Source.failures g.K.Sink.failures known.turned
-    g.S.Source.ended text r.front (over_if (is_quit (request_of text))) at.taken r.written
-    said all (omega (arith, at.spent, one)) (at.uncounted ∙ known.reads) (c.in_ok-quit-in-Last.ensures.same ∙ known.writes))
+    g.S.Source.ended text r.front (over_if (is_quit (request_of text))) 1 at.taken r.written
+    said ends (omega (arith, at.spent)) (at.uncounted ∙ known.reads) (c.in_ok-quit-in-Last.ensures.same ∙ known.writes))

@@ -1,0 +1,48 @@
+-- What a session plays on its desk: one list of events, in the order of its lines, and it writes the bytes of their
+-- replies. (Our own.)
+use Rattle.std.specs.Prelude.{◌≡◌, ℕ, List, [], ◌∷◌, Ok, length}
+use Rattle.gw_meaning.specs.Listing.{Listing}
+use Rattle.gw_edit.specs.Applied.{applied}
+use Rattle.gw_desk.specs.declared.play.Event.{Event}
+use Rattle.gw_desk.specs.declared.play.Event.TheVariants as events
+use Rattle.gw_desk.specs.declared.play.Reply.{Reply}
+use Rattle.gw_desk.specs.declared.play.Reply.TheVariants as replies
+use Rattle.gw_desk.specs.Book.{Book}
+use Rattle.gw_desk.specs.Headline.{AreRight, IsPrinted}
+use Rattle.gw_desk.specs.Playing.{Plays}
+use Rattle.gw_script.specs.declared.fault.Over.{Over}
+use Rattle.gw_script.specs.Replying.{Answers, DeskAnswers}
+use Rattle.gw_script.specs.Sessions.{Says}
+
+-- a version that is open, and the events that are still to come, with the replies that they get
+pub record Agenda : Type 0 where
+  pub version : Listing
+  pub events : List Event
+  pub replies : List Reply
+
+-- the version behind an event: an accepted edit's own, or the same
+abbrev pub IsBehind : Listing → Event → Reply → Listing → Type 0
+IsBehind t (events.Edit e) (replies.Edited n) u = applied t e ≡ Ok u
+IsBehind t event reply u = u ≡ t
+
+-- the next event gets the next reply
+pub record IsNext (a : Agenda) (event : Event) (reply : Reply) (b : Agenda) : Type 0 where
+  pub event_is : a.events ≡ event ∷ b.events
+  pub reply_is : a.replies ≡ reply ∷ b.replies
+  pub version : IsBehind a.version event reply b.version
+
+-- the desk plays events, each reply is right, and what is said is told by these replies alone, one after another
+pub record PlaysOut (b b' : Book) (n : ℕ) (input output : List ℕ) (over : Over) : Type 0 where
+  pub events : List Event
+  pub replies : List Reply
+  pub plays : Plays b events replies b'
+  pub right : AreRight IsPrinted b.version (length b.edits) events replies
+  pub says : Says (Answers (λ (c : Agenda). c.version) IsNext)
+      (record { version = b.version; events = events; replies = replies }) n input output over
+      (record { version = b'.version; events = []; replies = [] })
+
+-- whatever a session says over a desk
+abbrev pub SessionsPlay : Type 0
+SessionsPlay =
+    (b b' : Book) (n : ℕ) (input output : List ℕ) (over : Over) → Says DeskAnswers b n input output over b' →
+    PlaysOut b b' n input output over
