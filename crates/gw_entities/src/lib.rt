@@ -1,9 +1,9 @@
-//! What facilities, queues and storages keep, and the entities of a run in order of first touch.
+//! What facilities, queues, storages and tables keep, and the entities of a run in order of first touch.
 //!
 //! A [`Level`] is a content over time: its sum is exact, tick by tick. [`Facility`], [`Queue`] and [`Storage`] count
 //! what a report tells of them; each takes any change. [`ByKey`] keeps a value for each entity. [`Parameters`]
-//! keeps the parameters of transactions, and [`Comings`] who came to which queue. [`KeySet`] finds keys by their hash.
-//! Copies of each share what did not change.
+//! keeps the parameters of transactions, [`Comings`] who came to which queue, and [`Tables`] the values of tables.
+//! [`KeySet`] finds keys by their hash. Copies of each share what did not change.
 #![tactic(auto)]
 
 mod by_key;

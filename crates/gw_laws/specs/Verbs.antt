@@ -1,4 +1,4 @@
--- Each verb of a block that is read is evaluated. (Our own: what is read so far.)
+-- Each verb of a block is evaluated. (Our own.)
 use Rattle.std.specs.Prelude.{◌≡◌, Bool, List, Some, Ok}
 use Rattle.gw_names.specs.declared.verb.BlockVerb.{BlockVerb}
 use Rattle.gw_meaning.specs.declared.auxiliary.Auxiliary.{Auxiliary}

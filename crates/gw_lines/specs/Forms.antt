@@ -116,8 +116,8 @@ asks_storage beside = false
 abbrev pub forms_of_gate : Auxiliary → List Form
 forms_of_gate beside = (if asks_storage beside then a_definition else an_entity) ∷ another_label ∷ []
 
--- the forms of each verb's operands, for the verbs that are read so far, by what was read before: what stands beside
--- the operands, and whether the first operand is given
+-- the forms of each verb's operands, by what was read before: what stands beside the operands, and whether the first
+-- operand is given
 abbrev pub forms_of_block : BlockVerb → Auxiliary → Bool → Option (List Form)
 forms_of_block blocks.Generate beside given = Some (a_value ∷ a_value ∷ a_value ∷ a_value ∷ a_value ∷ [])
 forms_of_block blocks.Advance beside given = Some (a_value ∷ a_value ∷ [])

@@ -25,7 +25,7 @@ abbrev pub is_command : Verb → Bool
 is_command (verbs.Command command) = true
 is_command verb = false
 
--- a definition has a label; one that is still to come is looked at no further
+-- a definition has a label
 abbrev pub needs_label : Verb → Bool
 needs_label (verbs.Definition verb) = is_some (forms_of_definition verb)
 needs_label verb = false

@@ -14,7 +14,7 @@ pub enum LineFault {
     /// L2: a byte of 128 or more stands outside comments.
     #[error("a byte outside comments is not ASCII")]
     BadByte,
-    /// L3: no verb among the first two words, or one that is still to come.
+    /// L3: no verb among the first two words.
     #[error("the line has no known verb")]
     UnknownVerb,
     /// L4: the word before the verb is no lawful name, or the verb takes no label, or it lacks one that it needs.

@@ -53,8 +53,8 @@ pub struct Form {
     pub presence: Presence,
 }
 
-/// The forms of a verb's operands, if the verb is read so far, by what was read before: what stands beside the operands,
-/// and whether the first operand is given.
+/// The forms of a verb's operands, which each verb has, by what was read before: what stands beside the operands, and
+/// whether the first operand is given.
 pub fn forms_of(verb: Verb, beside: Auxiliary, given: bool) -> Option<&'static [Form]>
     ensures forms { option_copied result ≡ forms_of verb beside given }
     ensures few { IfSome result (λ f. length f.now ≤ 7) }
@@ -126,7 +126,7 @@ fn asks_storage(beside: Auxiliary) -> bool
     }
 }
 
-/// The forms of a definition's operands, if the definition is read so far.
+/// The forms of a definition's operands, which each definition has.
 pub fn forms_of_definition(verb: DefinitionVerb) -> Option<&'static [Form]>
     ensures forms { option_copied result ≡ forms_of_definition verb }
     ensures few { IfSome result (λ f. length f.now ≤ 7) }

@@ -175,7 +175,7 @@ fn no_label(verb: Verb) -> Result<(), LineFault>
     }
 }
 
-// A definition has a label. One that is still to come is looked at no further.
+// A definition has a label.
 fn needs_label(verb: Verb) -> bool
     ensures { result ≡ needs_label verb }
 {

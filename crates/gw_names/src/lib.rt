@@ -1,7 +1,7 @@
 //! The words of the language: verbs, names, and the keys of entities.
 //!
-//! [`Verb`] has every verb of the whole language, those of later stages too, so that none of them is ever
-//! a name. [`Name::read`] gives the upper-case name that a text spells, or nothing where it spells none.
+//! [`Verb`] has every verb of the language, so that none of them is ever a name. [`Name::read`] gives the upper-case
+//! name that a text spells, or nothing where it spells none.
 #![tactic(auto)]
 
 mod class;
