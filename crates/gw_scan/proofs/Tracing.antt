@@ -8,7 +8,6 @@ use Rattle.gw_expr.specs.declared.function.Function.{Function}
 use Rattle.gw_expr.specs.Evaluation.{Question, NumberOf, AttributeOf, PartOf, VariableOf, FunctionOf, Reply, Evaluation, Wants}
 use Rattle.gw_expr.specs.Term.{Term}
 use Rattle.gw_expr.specs.Worlds.{Evaluates, yields, stops, refused, replied, failed}
-use Rattle.gw_streams.specs.declared.stream.Stream.{Stream}
 use Rattle.gw_meaning.specs.declared.asker.Asker.{Asker}
 use Rattle.gw_meaning.specs.declared.item.End.TheVariants as ends
 use Rattle.gw_meaning.specs.declared.item.Asked.TheVariants as asking

@@ -2,7 +2,7 @@ use Rattle.std.proofs.Common.{◌≡◌, ◌+◌, ◌++◌, ◌<◌, List, [], �
 use Rattle.std.proofs.lemmas.Grind.{common_steps}
 use Rattle.gw_meaning.specs.declared.transaction.Transaction.{Transaction}
 use Rattle.gw_meaning.specs.declared.watched.Watched.{Watched}
-use Rattle.gw_meaning.specs.Changes.{crossing, crossings}
+use Rattle.gw_meaning.specs.Changes.{crossing}
 use Rattle.gw_chains.specs.Chains.{with_share, has_share}
 use Rattle.gw_chains.proofs.ChainLaws.{item_drop}
 use Rattle.gw_chains.proofs.LetIn.{with_first, with_rest, with_none}

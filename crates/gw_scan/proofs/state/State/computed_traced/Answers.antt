@@ -1,4 +1,4 @@
-use Rattle.std.proofs.Common.{◌≡◌, ℤ, List, Result, ap, refl}
+use Rattle.std.proofs.Common.{ℤ, List, Result, ap, refl}
 use Rattle.std.proofs.lemmas.Result.{err_from_is_err_and}
 use Rattle.gw_names.specs.declared.key.Key.{Key}
 use Rattle.gw_expr.specs.Evaluation.{value_of}

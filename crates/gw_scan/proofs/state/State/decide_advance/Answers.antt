@@ -1,4 +1,4 @@
-use Rattle.std.proofs.Common.{◌≡◌, ℕ, ℤ, Option, option_copied, rules}
+use Rattle.std.proofs.Common.{◌≡◌, ℤ, option_copied, rules}
 use Rattle.gw_meaning.specs.declared.moves.Move.{Move}
 use Rattle.std.proofs.Common.{◌≡◌, Ok, Err, true, refl, rules}
 use Rattle.gw_nums.specs.Range.{is_negative, magnitude}
@@ -6,7 +6,7 @@ use Rattle.gw_expr.specs.declared.stop.Stop.TheVariants.{NegativeTime}
 use Rattle.gw_meaning.specs.declared.item.End.TheVariants as ends
 use Rattle.gw_meaning.specs.declared.moves.Change.TheVariants as changes
 use Rattle.gw_meaning.specs.declared.moves.Move.TheVariants as moves
-use Rattle.gw_meaning.specs.Evaluation.{Eval, gives, ends_with, stops_if, time_prog, ◌~>◌}
+use Rattle.gw_meaning.specs.Evaluation.{Eval, gives, ends_with, stops_if, time_prog}
 use Rattle.gw_meaning.specs.Step.{delay_of}
 use Rattle.gw_asking.specs.declared.halt.Why.TheVariants as whys
 use Rattle.gw_asking.specs.Deciding.{Comes}

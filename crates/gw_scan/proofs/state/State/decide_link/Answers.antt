@@ -5,8 +5,7 @@ use Rattle.gw_meaning.specs.declared.moves.Change.TheVariants as changes
 use Rattle.gw_meaning.specs.declared.moves.Fate.TheVariants as fates
 use Rattle.gw_meaning.specs.declared.moves.Move.{Move}
 use Rattle.gw_meaning.specs.declared.moves.Move.TheVariants as moves
-use Rattle.gw_meaning.specs.Evaluation.{Eval, entity_prog, gives, ◌~>◌}
-use Rattle.gw_meaning.specs.Step.{link_prog}
+use Rattle.gw_meaning.specs.Evaluation.{Eval, entity_prog, gives}
 use Rattle.gw_asking.specs.Deciding.{Comes}
 use Rattle.gw_asking.proofs.Binding.{decides_left, decides_then, decides_comes}
 use Rattle.gw_scan.proofs.state.State.decide_link.Goals as goal

@@ -1,11 +1,11 @@
-use Rattle.std.proofs.Common.{◌≡◌, ℕ, ℤ, Option, option_copied, rules}
+use Rattle.std.proofs.Common.{ℤ, option_copied}
 use Rattle.gw_meaning.specs.declared.moves.Move.{Move}
 use Rattle.std.proofs.Common.{Ok, refl}
 use Rattle.gw_meaning.specs.declared.moves.Change.TheVariants as changes
 use Rattle.gw_meaning.specs.declared.moves.Fate.TheVariants as fates
 use Rattle.gw_meaning.specs.declared.moves.Move.TheVariants as moves
 use Rattle.gw_meaning.specs.declared.transaction_change.TransactionChange.TheVariants as own
-use Rattle.gw_meaning.specs.Evaluation.{Eval, gives, value_there, ◌~>◌}
+use Rattle.gw_meaning.specs.Evaluation.{Eval, gives, value_there}
 use Rattle.gw_asking.specs.Deciding.{Comes}
 use Rattle.gw_asking.proofs.Binding.{decides_left, decides_then, decides_comes}
 use Rattle.gw_scan.proofs.state.State.decide_priority.Goals as goal

@@ -1,9 +1,9 @@
-use Rattle.std.proofs.Common.{◌≡◌, ℕ, ℤ, Option, option_copied, rules}
+use Rattle.std.proofs.Common.{◌≡◌, option_copied, rules}
 use Rattle.gw_names.specs.declared.key.Key.{Key}
 use Rattle.gw_meaning.specs.declared.moves.Move.{Move}
 use Rattle.std.proofs.Common.{is_some}
 use Rattle.gw_meaning.specs.Entities.{facility_at}
-use Rattle.gw_meaning.specs.Evaluation.{Eval, entity_prog, ◌~>◌}
+use Rattle.gw_meaning.specs.Evaluation.{Eval, entity_prog}
 use Rattle.gw_meaning.specs.Step.{seize_or_wait}
 use Rattle.gw_asking.specs.Deciding.{Comes}
 use Rattle.gw_asking.proofs.Binding.{decides_left, decides_then, decides_comes}

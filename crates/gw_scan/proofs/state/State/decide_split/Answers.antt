@@ -1,4 +1,4 @@
-use Rattle.std.proofs.Common.{◌≡◌, ℤ, option_copied, rules}
+use Rattle.std.proofs.Common.{ℤ, option_copied}
 use Rattle.gw_meaning.specs.declared.moves.Move.{Move}
 use Rattle.gw_meaning.specs.Evaluation.{Eval, value_there}
 use Rattle.gw_meaning.specs.Step.{split_value}

@@ -1,4 +1,4 @@
-use Rattle.std.proofs.Common.{rules, ◌≡◌, ◌++◌, Some, None, List, not, filter, sym, ap, ap₂, ◌∙◌}
+use Rattle.std.proofs.Common.{rules, ◌≡◌, Some, None, List, not, filter, sym, ap, ap₂, ◌∙◌}
 use Rattle.gw_chains.specs.Chains.{delays_of}
 use Rattle.gw_meaning.specs.declared.watched.Watched.{Watched}
 use Rattle.gw_meaning.specs.declared.transaction.Transaction.{Transaction}

@@ -1,11 +1,10 @@
-use Rattle.std.proofs.Common.{◌≡◌, ℕ, ℤ, Option, option_copied, rules}
+use Rattle.std.proofs.Common.{◌≡◌, ℕ, option_copied, rules}
 use Rattle.gw_meaning.specs.declared.moves.Move.{Move}
-use Rattle.std.proofs.Common.{Bool, refl}
 use Rattle.gw_names.specs.declared.key.Key.TheVariants as keys
 use Rattle.gw_meaning.specs.declared.item.Asked.TheVariants as asking
 use Rattle.gw_meaning.specs.declared.item.Item.TheVariants as items
 use Rattle.gw_meaning.specs.Entities.{store_at}
-use Rattle.gw_meaning.specs.Evaluation.{Eval, asks, units_prog, ◌~>◌}
+use Rattle.gw_meaning.specs.Evaluation.{Eval, asks, units_prog}
 use Rattle.gw_meaning.specs.Step.{enter_storage}
 use Rattle.gw_asking.proofs.Binding.{decides_left, decides_then, decides_asked}
 use Rattle.gw_scan.proofs.state.State.enter_defined.Goals as goal

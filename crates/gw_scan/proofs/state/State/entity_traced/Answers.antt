@@ -1,4 +1,4 @@
-use Rattle.std.proofs.Common.{◌≡◌, ℤ, List, [], Some, refl, sym, subst}
+use Rattle.std.proofs.Common.{◌≡◌, List, [], Some, refl, sym, subst}
 use Rattle.gw_names.specs.declared.key.Key.{Key}
 use Rattle.gw_names.specs.declared.entity_name.EntityName.{EntityName}
 use Rattle.gw_expr.specs.declared.expr.Node.{Node}

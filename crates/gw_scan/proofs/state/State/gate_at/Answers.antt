@@ -1,8 +1,7 @@
-use Rattle.std.proofs.Common.{◌≡◌, List, [], Some, None, subst, rules}
+use Rattle.std.proofs.Common.{◌≡◌, List, [], None, subst, rules}
 use Rattle.gw_names.specs.declared.key.Key.{Key}
 use Rattle.gw_meaning.specs.declared.watched.Watched.{Watched}
 use Rattle.gw_asking.specs.Deciding.{Comes}
-use Rattle.gw_meaning.specs.declared.moves.Move.{Move}
 use Rattle.gw_meaning.specs.Step.{gate_at}
 use Rattle.gw_asking.proofs.Binding.{decides_comes}
 use Rattle.gw_scan.proofs.state.State.gate_at.Goals as goal

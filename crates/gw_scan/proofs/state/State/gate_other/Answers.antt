@@ -1,9 +1,7 @@
-use Rattle.std.proofs.Common.{[], Some, None, option_copied, Result, ap}
-use Rattle.std.proofs.lemmas.Result.{err_from_is_err_and}
+use Rattle.std.proofs.Common.{[], Some, None}
 use Rattle.gw_names.specs.declared.key.Key.{Key}
 use Rattle.gw_meaning.specs.declared.moves.Move.{Move}
 use Rattle.gw_meaning.specs.declared.watched.Watched.{Watched}
-use Rattle.gw_asking.specs.declared.halt.Why.{Why}
 use Rattle.gw_meaning.specs.Evaluation.{Eval, entity_prog, entity_traced}
 use Rattle.gw_meaning.specs.Step.{gate_at}
 use Rattle.gw_asking.proofs.Binding.{decides_left, decides_then, decides_comes}

@@ -1,8 +1,8 @@
-use Rattle.std.proofs.Common.{◌≡◌, ℕ, ℤ, Option, option_copied, rules}
+use Rattle.std.proofs.Common.{◌≡◌, ℕ, option_copied, rules}
 use Rattle.gw_meaning.specs.declared.moves.Move.{Move}
 use Rattle.gw_names.specs.declared.key.Key.TheVariants as keys
 use Rattle.gw_meaning.specs.Entities.{store_at}
-use Rattle.gw_meaning.specs.Evaluation.{Eval, units_prog, ◌~>◌}
+use Rattle.gw_meaning.specs.Evaluation.{Eval, units_prog}
 use Rattle.gw_meaning.specs.Step.{leave_units}
 use Rattle.gw_asking.proofs.Binding.{decides_left, decides_then}
 use Rattle.gw_scan.proofs.state.State.leave_defined.Goals as goal

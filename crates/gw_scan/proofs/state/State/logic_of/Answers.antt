@@ -1,9 +1,9 @@
-use Rattle.std.proofs.Common.{◌≡◌, ℕ, ℤ, Option, option_copied, rules}
+use Rattle.std.proofs.Common.{◌≡◌, option_copied, rules}
 use Rattle.gw_names.specs.declared.key.Key.{Key}
 use Rattle.gw_meaning.specs.declared.moves.Move.{Move}
 use Rattle.std.proofs.Common.{Ok, refl}
 use Rattle.gw_meaning.specs.Entities.{switch_at}
-use Rattle.gw_meaning.specs.Evaluation.{Eval, entity_prog, ◌~>◌}
+use Rattle.gw_meaning.specs.Evaluation.{Eval, entity_prog}
 use Rattle.gw_meaning.specs.Step.{logic_to, switched}
 use Rattle.gw_asking.specs.Deciding.{Comes}
 use Rattle.gw_asking.proofs.Binding.{decides_left, decides_then, decides_comes}

@@ -1,5 +1,4 @@
-use Rattle.std.proofs.Common.{rules, ◌≡◌, OnOk, List, [], refl, ap, ◌∙◌}
-use Rattle.gw_meaning.specs.declared.watched.Watched.{Watched}
+use Rattle.std.proofs.Common.{rules, ◌≡◌, OnOk, [], refl, ap, ◌∙◌}
 use Rattle.gw_meaning.specs.Machine.{Machine}
 use Rattle.gw_meaning.specs.Changes.{moved, written}
 use Rattle.gw_scan.proofs.Quiet.{unwoken}

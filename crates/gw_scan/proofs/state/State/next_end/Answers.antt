@@ -1,5 +1,4 @@
 use Rattle.std.proofs.Common.{◌≡◌, ◌∙◌, Ok, Err, ap, rules}
-use Rattle.gw_meaning.specs.Changes.{decided}
 use Rattle.gw_meaning.specs.Step.{step}
 use Rattle.gw_asking.specs.Noted.{Noted}
 use Rattle.gw_asking.specs.declared.halt.Why.TheVariants as whys

@@ -1,7 +1,7 @@
-use Rattle.std.proofs.Common.{◌≡◌, ℤ, [], Some, None, Ok, true, false, option_copied, refl, rules}
+use Rattle.std.proofs.Common.{◌≡◌, ℤ, [], Some, Ok, true, false, option_copied, refl, rules}
 use Rattle.gw_meaning.specs.declared.moves.Move.{Move}
-use Rattle.gw_meaning.specs.Evaluation.{Eval, gives, value_there, ◌~>◌}
-use Rattle.gw_meaning.specs.Step.{holds, lead_to, test_values}
+use Rattle.gw_meaning.specs.Evaluation.{Eval, value_there, ◌~>◌}
+use Rattle.gw_meaning.specs.Step.{holds, test_values}
 use Rattle.gw_asking.proofs.Binding.{decides_left, decides_then, decides_comes}
 use Rattle.gw_asking.specs.Deciding.{Comes}
 use Rattle.gw_scan.proofs.state.State.test_or_lead.Goals as goal

@@ -1,8 +1,8 @@
-use Rattle.std.proofs.Common.{◌≡◌, ℤ, List, [], Some, None, Ok, Err, option_copied, subst, rules}
+use Rattle.std.proofs.Common.{◌≡◌, ℤ, List, [], None, Ok, Err, option_copied, subst, rules}
 use Rattle.gw_meaning.specs.declared.moves.Move.{Move}
 use Rattle.gw_meaning.specs.declared.watched.Watched.{Watched}
 use Rattle.gw_meaning.specs.Evaluation.{Eval, value_traced, ◌~>◌}
-use Rattle.gw_meaning.specs.Step.{holds, test_values}
+use Rattle.gw_meaning.specs.Step.{test_values}
 use Rattle.gw_asking.specs.Deciding.{Decides, Comes}
 use Rattle.gw_asking.proofs.Binding.{decides_left, decides_then, decides_comes}
 use Rattle.gw_scan.proofs.state.State.test_or_wait.Goals as goal

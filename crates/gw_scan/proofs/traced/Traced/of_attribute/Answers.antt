@@ -1,11 +1,10 @@
-use Rattle.std.proofs.Common.{◌≡◌, ℤ, List, Result, Ok, Err, ap, sym, subst}
+use Rattle.std.proofs.Common.{ℤ, List, Result, Ok, ap}
 use Rattle.std.specs.Option.{option_to_list}
 use Rattle.std.proofs.lemmas.Result.{err_from_is_err_and}
 use Rattle.gw_meaning.specs.declared.watched.Watched.{Watched}
 use Rattle.gw_meaning.specs.Watching.{with_all_watched}
 use Rattle.gw_meaning.specs.Evaluation.{Eval, gives, attribute_prog, watched_prog, ◌~>◌}
 use Rattle.gw_asking.specs.declared.halt.Why.{Why}
-use Rattle.gw_asking.specs.Deciding.{Decides}
 use Rattle.gw_scan.specs.Tracing.{with_read}
 use Rattle.gw_asking.proofs.Binding.{decides_exit, decides_then, decides_gives}
 use Rattle.std.proofs.Common.{refl}
