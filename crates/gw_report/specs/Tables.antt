@@ -55,7 +55,7 @@ quotient a zero = 0
 quotient a (suc b) = a / suc b
 
 -- the standard deviation in thousandths, by how many values there are, their sum and that of their squares. One less
--- than all of them stands below, so it is 0 for fewer than two; what stands above is never below 0
+-- than all of them stands below, so it is 0 for fewer than two; what stands above is never below 0, and would count as 0
 unfoldable pub deviation : ℕ → ℤ → ℕ → ℕ
 deviation n sum squares = whole_root (quotient (1000000 * (n * squares - square sum)) (n * (n - 1)))
 

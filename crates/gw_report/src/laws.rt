@@ -8,8 +8,8 @@ pub fn renamed_text()
     ensures { RenamedText }
 {}
 
-/// The classes of a table together count each of its values once, and a class counts the values that lie within the
-/// limits that its line names.
+/// The classes of a table together count each of its values once, and a class counts the values that lie within its
+/// limits. That its line prints these limits is the definition's.
 pub fn classes_hold()
     ensures once { CountsEachOnce }
     ensures printed { LiesAsPrinted }
