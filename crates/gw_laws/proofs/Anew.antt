@@ -1,10 +1,11 @@
 -- What a RESET and a CLEAR leave: who lives, who is on each user chain, what stands in each block, and what is read of
 -- each entity.
-use Rattle.std.proofs.Common.{◌≡◌, ◌⊎◌, ℕ, nat_eq, Bool, true, false, cond, List, [], ◌∷◌, ◌++◌, append-nil, drop, filter, length, Some, unwrap_or, refl, sym, ap, subst, ◌∙◌, inl, inr, arith}
+use Rattle.std.proofs.Common.{◌≡◌, ◌⊎◌, ℕ, ◌+◌, ◌-◌, ◌*◌, nat_eq, Bool, true, false, cond, List, [], ◌∷◌, ◌++◌, append-nil, drop, filter, length, Some, unwrap_or, refl, sym, ap, subst, ◌∙◌, inl, inr, arith}
 use Rattle.std.specs.Prelude.{Contains}
 use Rattle.std.proofs.lemmas.List.Elements.{All-from_recursion}
 use Rattle.gw_names.specs.declared.key.Key.{Key}
 use Rattle.gw_names.specs.Keys.{key_eq}
+use Rattle.gw_entities.specs.Levels.{Course, restarted, sum_up_to}
 use Rattle.gw_entities.specs.Tables.{value_of}
 use Rattle.gw_entities.specs.Records.{Ownership, never_owned, facility_anew, Line, no_line, queue_anew, Store, never_used, storage_anew}
 use Rattle.gw_streams.specs.declared.stream.Stream.{Stream}
@@ -17,7 +18,7 @@ use Rattle.gw_meaning.specs.Listing.{Listing}
 use Rattle.gw_meaning.specs.Machine.{Machine, UserChain, no_chain, user_chain_at, members_of, waiting, count_in, count_at, or_no_count}
 use Rattle.gw_meaning.specs.Changes.{count_anew, user_chain_anew, reset, decided}
 use Rattle.gw_frame.proofs.Known.{IsDecided}
-use Rattle.gw_laws.specs.Anew.{Resets, Clears, IsNextCommand, IsNoClear}
+use Rattle.gw_laws.specs.Anew.{Resets, Clears, IsNextCommand, IsNoClear, keys_of}
 use Rattle.gw_meaning.specs.declared.statement.Command.TheVariants as commands
 use Rattle.gw_laws.specs.Chain.{is_in, IsFirstInFirstOut, KeepPlaces}
 use Rattle.gw_laws.specs.Living.{living}
@@ -80,15 +81,31 @@ module _ {V W : Type 0} (anew : V → V) (look : V → W) (none : V) (same : (v 
     go true rest = same e.1
     go false rest = rest
 
--- where all have one look that are counted anew, and so has the one that stands for none
-module _ {V W : Type 0} (anew : V → V) (look : V → W) (none : V) (w : W) (all : (v : V) → look (anew v) ≡ w) (nobody : look none ≡ w) where
-  pub all_look : (es : List (Key × V)) (key : Key) → look (unwrap_or (value_of (all_anew anew es) key) none) ≡ w
-  all_look [] key = nobody
-  all_look (e ∷ es) key = go (key_eq key e.0) (all_look es key) where
-    go : (b : Bool) → look (unwrap_or (value_of (all_anew anew es) key) none) ≡ w →
-        look (unwrap_or (cond b (Some (anew e.1)) (value_of (all_anew anew es) key)) none) ≡ w
+-- what holds of all that are counted anew, and of the one that stands for none
+module _ {V : Type 0} (anew : V → V) (P : V → Type 0) (none : V) (all : (v : V) → P (anew v)) (nobody : P none) where
+  pub all_hold : (es : List (Key × V)) (key : Key) → P (unwrap_or (value_of (all_anew anew es) key) none)
+  all_hold [] key = nobody
+  all_hold (e ∷ es) key = go (key_eq key e.0) (all_hold es key) where
+    go : (b : Bool) → P (unwrap_or (value_of (all_anew anew es) key) none) →
+        P (unwrap_or (cond b (Some (anew e.1)) (value_of (all_anew anew es) key)) none)
     go true rest = all e.1
     go false rest = rest
+
+-- where all have one look that are counted anew, and so has the one that stands for none
+pub all_look : {V W : Type 0} (anew : V → V) (look : V → W) (none : V) (w : W) (all : (v : V) → look (anew v) ≡ w) (nobody : look none ≡ w)
+    (es : List (Key × V)) (key : Key) → look (unwrap_or (value_of (all_anew anew es) key) none) ≡ w
+all_look anew look none w all nobody = all_hold anew (λ v. look v ≡ w) none all nobody
+
+-- each keeps its key
+pub keys_anew : {V : Type 0} (anew : V → V) (es : List (Key × V)) → keys_of (all_anew anew es) ≡ keys_of es
+keys_anew anew [] = refl
+keys_anew anew (e ∷ es) = ap (λ ks. e.0 ∷ ks) (keys_anew anew es)
+
+-- no time has passed since a course was restarted
+pub just_restarted : (clock : ℕ) (course : Course) → sum_up_to (restarted clock course) clock ≡ 0
+just_restarted clock course =
+    let none : clock - clock ≡ 0 = omega arith in
+    ap (λ d. 0 + course.content * d) none ∙ omega arith
 
 -- ---- a RESET
 

@@ -1,8 +1,9 @@
 -- What a RESET, a CLEAR and a TABULATE do in a step.
-use Rattle.std.proofs.Common.{◌≡◌, ℕ, ℤ, cond, List, [], ◌∷◌, ◌++◌, Some, Ok, refl, sym, ap, subst, ◌∙◌, inl, inr}
+use Rattle.std.proofs.Common.{◌≡◌, ℕ, ℤ, cond, List, [], ◌∷◌, ◌++◌, Some, Ok, refl, sym, ap, subst, ◌∙◌, inl, inr, arith}
 use Rattle.std.proofs.lemmas.Bool.{cases_Bool}
 use Rattle.gw_names.specs.declared.key.Key.{Key}
 use Rattle.gw_names.specs.Keys.{key_eq}
+use Rattle.gw_entities.specs.Levels.{sum_up_to}
 use Rattle.gw_entities.specs.Records.{Ownership, never_owned, facility_anew, Line, no_line, queue_anew, Store, never_used, storage_anew}
 use Rattle.gw_entities.proofs.ComingLaws.{key_same}
 use Rattle.gw_entities.proofs.TableLaws.{key_eq_equiv}
@@ -22,7 +23,7 @@ use Rattle.gw_meaning.specs.Questions.{result_of}
 use Rattle.gw_meaning.specs.Changes.{reset, entering, with_active, moved, decided}
 use Rattle.gw_meaning.specs.Step.{command_prog, move_prog, step}
 use Rattle.gw_laws.specs.Anew.{IsNextCommand, ClearBeginsAnew, NobodyMoved, ResetMovesNobody, IsCountedAnew, ResetCountsAnew, OneValueMore, TabulateAddsOneValue}
-use Rattle.gw_laws.proofs.Anew.{all_look, chain_members, chain_entries, owner_reset, queue_reset, storage_reset, count_reset}
+use Rattle.gw_laws.proofs.Anew.{all_look, all_hold, keys_anew, just_restarted, chain_members, chain_entries, owner_reset, queue_reset, storage_reset, count_reset}
 use Rattle.gw_laws.proofs.Entries.{at_with}
 use Rattle.gw_laws.proofs.EndLaws.{goes_on}
 use Rattle.gw_laws.proofs.UserChainLaws.{same_behind, who_is_active}
@@ -73,6 +74,10 @@ reset_moves_nobody t seed s v next is = subst (NobodyMoved s) (reset_is t seed s
   savevalues = refl;
   switches = refl;
   comings = refl;
+  facility_lines = keys_anew (facility_anew s.clock) s.entities.facilities;
+  queue_lines = keys_anew (queue_anew s.clock) s.entities.queues;
+  storage_lines = keys_anew (storage_anew s.clock) s.entities.storages;
+  table_lines = keys_anew (λ (values : List ℤ). []) s.entities.tables;
 })
 
 pub reset_counts_anew : ResetCountsAnew
@@ -85,6 +90,18 @@ reset_counts_anew t seed s v next is = subst IsCountedAnew (reset_is t seed s v 
   zero_entries = all_look (queue_anew s.clock) (λ (q : Line). q.zero_entries) no_line 0 (λ q. refl) refl s.entities.queues;
   storages = all_look (storage_anew s.clock) (λ (q : Store). q.entries) never_used 0 (λ q. refl) refl s.entities.storages;
   tables = all_look (λ (values : List ℤ). []) (λ (values : List ℤ). values) [] [] (λ values. refl) refl s.entities.tables;
+  owned =
+      all_look (facility_anew s.clock) (λ (f : Ownership). sum_up_to f.level s.clock) never_owned 0
+      (λ f. just_restarted s.clock f.level) (omega arith) s.entities.facilities;
+  stood =
+      all_look (queue_anew s.clock) (λ (q : Line). sum_up_to q.level s.clock) no_line 0 (λ q. just_restarted s.clock q.level) (omega arith)
+      s.entities.queues;
+  used =
+      all_look (storage_anew s.clock) (λ (q : Store). sum_up_to q.level s.clock) never_used 0 (λ q. just_restarted s.clock q.level)
+      (omega arith) s.entities.storages;
+  longest = all_hold (queue_anew s.clock) (λ (q : Line). q.greatest ≡ q.level.content) no_line (λ q. refl) refl s.entities.queues;
+  least = all_hold (storage_anew s.clock) (λ (q : Store). q.least ≡ q.level.content) never_used (λ q. refl) refl s.entities.storages;
+  most = all_hold (storage_anew s.clock) (λ (q : Store). q.greatest ≡ q.level.content) never_used (λ q. refl) refl s.entities.storages;
 })
 
 -- ---- one value more

@@ -1,6 +1,7 @@
 -- What a RESET and a CLEAR do, in each step from any state. (Manual: RESET and CLEAR.)
-use Rattle.std.specs.Prelude.{◌≡◌, ◌≢◌, ◌≤◌, ◌<◌, ℕ, ℤ, List, [], ◌∷◌, ◌++◌, Some, Ok}
+use Rattle.std.specs.Prelude.{◌≡◌, ◌≢◌, ◌≤◌, ◌<◌, ℕ, ℤ, List, [], ◌∷◌, ◌++◌, map, Some, Ok}
 use Rattle.gw_names.specs.declared.key.Key.{Key}
+use Rattle.gw_entities.specs.Levels.{sum_up_to}
 use Rattle.gw_streams.specs.declared.stream.Stream.{Stream}
 use Rattle.gw_meaning.specs.declared.statement.Command.{Command}
 use Rattle.gw_meaning.specs.declared.statement.Command.TheVariants as commands
@@ -44,9 +45,14 @@ ClearBeginsAnew =
     (t : Listing) (seed : ℕ) (s v : Machine) → IsNextCommand t s commands.Clear → step t seed s ≡ Ok v →
     v ≡ record zero_state { commands = raised s.commands; complete = s.complete; streams = s.streams }
 
+-- the keys of entities, in order of first touch
+abbrev pub keys_of : {V : Type 0} → List (Key × V) → List Key
+keys_of es = map (λ e. e.0) es
+
 -- a RESET moves nobody: each transaction stands where it stood, as it was, and has what it had of its own; each
 -- facility has the owner, each queue, storage and block the content, and each user chain the transactions that it had;
--- savevalues, switches, the clock, the numbering, the streams and what a GENERATE made stay
+-- savevalues, switches, the clock, the numbering, the streams and what a GENERATE made stay. Each entity keeps its line in
+-- the report
 pub record NobodyMoved (s v : Machine) : Type 0 where
   pub clock : v.clock ≡ s.clock
   pub complete : v.complete ≡ s.complete
@@ -68,13 +74,17 @@ pub record NobodyMoved (s v : Machine) : Type 0 where
   pub savevalues : v.entities.savevalues ≡ s.entities.savevalues
   pub switches : v.entities.switches ≡ s.entities.switches
   pub comings : v.entities.comings ≡ s.entities.comings
+  pub facility_lines : keys_of v.entities.facilities ≡ keys_of s.entities.facilities
+  pub queue_lines : keys_of v.entities.queues ≡ keys_of s.entities.queues
+  pub storage_lines : keys_of v.entities.storages ≡ keys_of s.entities.storages
+  pub table_lines : keys_of v.entities.tables ≡ keys_of s.entities.tables
 
 abbrev pub ResetMovesNobody : Type 0
 ResetMovesNobody =
     (t : Listing) (seed : ℕ) (s v : Machine) → IsNextCommand t s commands.Reset → step t seed s ≡ Ok v → NobodyMoved s v
 
 -- and what is counted begins at 0: entries of blocks, user chains, queues and storages, captures, zero entries, the
--- values of tables, and the relative clock
+-- values of tables, and the relative clock. Times begin at 0, too, and the least and the greatest content are the present one
 pub record IsCountedAnew (v : Machine) : Type 0 where
   pub since : v.since ≡ v.clock
   pub blocks : (id : ℕ) → (count_at v.counts id).entries ≡ 0
@@ -84,6 +94,12 @@ pub record IsCountedAnew (v : Machine) : Type 0 where
   pub zero_entries : (key : Key) → (line_at v.entities key).zero_entries ≡ 0
   pub storages : (key : Key) → (store_at v.entities key).entries ≡ 0
   pub tables : (key : Key) → table_at v.entities key ≡ []
+  pub owned : (key : Key) → sum_up_to (facility_at v.entities key).level v.clock ≡ 0
+  pub stood : (key : Key) → sum_up_to (line_at v.entities key).level v.clock ≡ 0
+  pub used : (key : Key) → sum_up_to (store_at v.entities key).level v.clock ≡ 0
+  pub longest : (key : Key) → (line_at v.entities key).greatest ≡ (line_at v.entities key).level.content
+  pub least : (key : Key) → (store_at v.entities key).least ≡ (store_at v.entities key).level.content
+  pub most : (key : Key) → (store_at v.entities key).greatest ≡ (store_at v.entities key).level.content
 
 abbrev pub ResetCountsAnew : Type 0
 ResetCountsAnew =

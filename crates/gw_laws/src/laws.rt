@@ -254,7 +254,8 @@ pub fn items_are_told_apart()
 
 /// Right behind a CLEAR the state is that before the first step, but for the streams and what is done of the commands.
 /// Behind a RESET each transaction stands where it stood, as it was; owners, contents, savevalues, switches, the clock,
-/// the next number and the streams stay; and entries, captures, the values of tables and the relative clock begin at 0.
+/// the next number and the streams stay, and each entity keeps its line in the report; entries, captures, times, the
+/// values of tables and the relative clock begin at 0, and the least and the greatest content are the present one.
 pub fn runs_begin_anew()
     ensures cleared { ClearBeginsAnew }
     ensures stays { ResetMovesNobody }

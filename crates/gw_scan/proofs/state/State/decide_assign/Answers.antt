@@ -14,7 +14,8 @@ returns-in_err-key c =
     let seed = c.args.case.seed in
     let s = c.args.self.now in
     let q = c.args.asker.now in
-    let rest : Key → Eval Move = λ key. value_there s q (option_copied c.args.value) ~> (λ v. assign_with c.args.id c.args.sign key (parameter_at s.parameters q.number key) v) in
+    let rest : Key → Eval Move = λ key.
+    value_there s q (option_copied c.args.value) ~> (λ v. assign_with c.args.id c.args.sign key (parameter_at s.parameters q.number key) v) in
     decides_left t seed (entity_prog s q (option_copied c.args.parameter)) rest _ c.in_err-key.field-0.0 _ _ c.from_residual.ensures.1 c.in_err-key.ensures
 
 pub returns-in_err-value : goal.returns-in_err-value
@@ -23,11 +24,13 @@ returns-in_err-value c =
     let seed = c.args.case.seed in
     let s = c.args.self.now in
     let q = c.args.asker.now in
-    let rest : Key → Eval Move = λ key. value_there s q (option_copied c.args.value) ~> (λ v. assign_with c.args.id c.args.sign key (parameter_at s.parameters q.number key) v) in
+    let rest : Key → Eval Move = λ key.
+    value_there s q (option_copied c.args.value) ~> (λ v. assign_with c.args.id c.args.sign key (parameter_at s.parameters q.number key) v) in
     let key = c.in_ok-key.key in
     let last : ℤ → Eval Move = λ v. assign_with c.args.id c.args.sign key (parameter_at s.parameters q.number key) v in
     decides_then t seed (entity_prog s q (option_copied c.args.parameter)) rest key _ _ _ _ c.in_ok-key.ensures
-    (decides_left t seed (value_there s q (option_copied c.args.value)) last _ c.in_err-value.field-0.0 _ _ c.from_residual-in_err-value.ensures.1 c.in_err-value.ensures)
+    (decides_left t seed (value_there s q (option_copied c.args.value)) last _ c.in_err-value.field-0.0 _ _
+    c.from_residual-in_err-value.ensures.1 c.in_err-value.ensures)
 
 pub returns : goal.returns
 returns c =
@@ -35,7 +38,8 @@ returns c =
     let seed = c.args.case.seed in
     let s = c.args.self.now in
     let q = c.args.asker.now in
-    let rest : Key → Eval Move = λ key. value_there s q (option_copied c.args.value) ~> (λ v. assign_with c.args.id c.args.sign key (parameter_at s.parameters q.number key) v) in
+    let rest : Key → Eval Move = λ key.
+    value_there s q (option_copied c.args.value) ~> (λ v. assign_with c.args.id c.args.sign key (parameter_at s.parameters q.number key) v) in
     let key = c.in_ok-key.key in
     let last : ℤ → Eval Move = λ v. assign_with c.args.id c.args.sign key (parameter_at s.parameters q.number key) v in
     let n = c.in_ok-value.value in

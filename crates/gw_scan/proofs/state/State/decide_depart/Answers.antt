@@ -15,7 +15,8 @@ returns-in_err-key c =
     let seed = c.args.case.seed in
     let s = c.args.self.now in
     let q = c.args.asker.now in
-    let rest : Key → Eval Move = λ key. units_prog s q (option_copied c.args.units) ~> (λ n. depart_units c.args.id key (line_at s.entities key) (came s.entities.comings key c.args.x.now.number) n) in
+    let rest : Key → Eval Move = λ key.
+    units_prog s q (option_copied c.args.units) ~> (λ n. depart_units c.args.id key (line_at s.entities key) (came s.entities.comings key c.args.x.now.number) n) in
     decides_left t seed (entity_prog s q (option_copied c.args.entity)) rest _ c.in_err-key.field-0.0 _ _ c.from_residual.ensures.1 c.in_err-key.ensures
 
 pub returns-in_err-units : goal.returns-in_err-units
@@ -24,11 +25,13 @@ returns-in_err-units c =
     let seed = c.args.case.seed in
     let s = c.args.self.now in
     let q = c.args.asker.now in
-    let rest : Key → Eval Move = λ key. units_prog s q (option_copied c.args.units) ~> (λ n. depart_units c.args.id key (line_at s.entities key) (came s.entities.comings key c.args.x.now.number) n) in
+    let rest : Key → Eval Move = λ key.
+    units_prog s q (option_copied c.args.units) ~> (λ n. depart_units c.args.id key (line_at s.entities key) (came s.entities.comings key c.args.x.now.number) n) in
     let key = c.in_ok-key.key in
     let last : ℕ → Eval Move = λ n. depart_units c.args.id key (line_at s.entities key) (came s.entities.comings key c.args.x.now.number) n in
     decides_then t seed (entity_prog s q (option_copied c.args.entity)) rest key _ _ _ _ c.in_ok-key.ensures
-    (decides_left t seed (units_prog s q (option_copied c.args.units)) last _ c.in_err-units.field-0.0 _ _ c.from_residual-in_err-units.ensures.1 c.in_err-units.ensures)
+    (decides_left t seed (units_prog s q (option_copied c.args.units)) last _ c.in_err-units.field-0.0 _ _
+    c.from_residual-in_err-units.ensures.1 c.in_err-units.ensures)
 
 pub returns : goal.returns
 returns c =
@@ -36,7 +39,8 @@ returns c =
     let seed = c.args.case.seed in
     let s = c.args.self.now in
     let q = c.args.asker.now in
-    let rest : Key → Eval Move = λ key. units_prog s q (option_copied c.args.units) ~> (λ n. depart_units c.args.id key (line_at s.entities key) (came s.entities.comings key c.args.x.now.number) n) in
+    let rest : Key → Eval Move = λ key.
+    units_prog s q (option_copied c.args.units) ~> (λ n. depart_units c.args.id key (line_at s.entities key) (came s.entities.comings key c.args.x.now.number) n) in
     let key = c.in_ok-key.key in
     let last : ℕ → Eval Move = λ n. depart_units c.args.id key (line_at s.entities key) (came s.entities.comings key c.args.x.now.number) n in
     let n = c.in_ok-units.units in

@@ -15,7 +15,8 @@ returns-in_err-key c =
     let seed = c.args.case.seed in
     let s = c.args.self.now in
     let q = c.args.asker.now in
-    let rest : Key → Eval Move = λ key. left_of (parameter_at s.parameters q.number key) ~> (λ left. loop_with c.args.id key left (option_copied c.args.label)) in
+    let rest : Key → Eval Move = λ key.
+    left_of (parameter_at s.parameters q.number key) ~> (λ left. loop_with c.args.id key left (option_copied c.args.label)) in
     decides_left t seed (entity_prog s q (option_copied c.args.parameter)) rest _ c.in_err-key.field-0.0 _ _ c.from_residual.ensures.1 c.in_err-key.ensures
 
 pub returns-in_err-left : goal.returns-in_err-left
@@ -24,12 +25,14 @@ returns-in_err-left c =
     let seed = c.args.case.seed in
     let s = c.args.self.now in
     let q = c.args.asker.now in
-    let rest : Key → Eval Move = λ key. left_of (parameter_at s.parameters q.number key) ~> (λ left. loop_with c.args.id key left (option_copied c.args.label)) in
+    let rest : Key → Eval Move = λ key.
+    left_of (parameter_at s.parameters q.number key) ~> (λ left. loop_with c.args.id key left (option_copied c.args.label)) in
     let key = c.in_ok-key.key in
     let last : ℤ → Eval Move = λ left. loop_with c.args.id key left (option_copied c.args.label) in
     let held : c.get.result ≡ parameter_at s.parameters q.number key = search rules in
     let why = c.in_err-left.field-0.0 in
-    let none : Comes (left_of (parameter_at s.parameters q.number key)) (Err why) = subst (λ (o : Option ℤ). Comes (left_of o) (Err why)) held c.in_err-left.ensures in
+    let none : Comes (left_of (parameter_at s.parameters q.number key)) (Err why) =
+    subst (λ (o : Option ℤ). Comes (left_of o) (Err why)) held c.in_err-left.ensures in
     decides_then t seed (entity_prog s q (option_copied c.args.parameter)) rest key _ _ _ _ c.in_ok-key.ensures
     (decides_left t seed (left_of (parameter_at s.parameters q.number key)) last _ why _ _ c.from_residual-in_err-left.ensures.1
     (decides_comes t seed (left_of (parameter_at s.parameters q.number key)) (Err why) _ none))
@@ -40,12 +43,14 @@ returns c =
     let seed = c.args.case.seed in
     let s = c.args.self.now in
     let q = c.args.asker.now in
-    let rest : Key → Eval Move = λ key. left_of (parameter_at s.parameters q.number key) ~> (λ left. loop_with c.args.id key left (option_copied c.args.label)) in
+    let rest : Key → Eval Move = λ key.
+    left_of (parameter_at s.parameters q.number key) ~> (λ left. loop_with c.args.id key left (option_copied c.args.label)) in
     let key = c.in_ok-key.key in
     let last : ℤ → Eval Move = λ left. loop_with c.args.id key left (option_copied c.args.label) in
     let held : c.get.result ≡ parameter_at s.parameters q.number key = search rules in
     let left = c.in_ok-left.left in
-    let one : Comes (left_of (parameter_at s.parameters q.number key)) (Ok left) = subst (λ (o : Option ℤ). Comes (left_of o) (Ok left)) held c.in_ok-left.ensures in
+    let one : Comes (left_of (parameter_at s.parameters q.number key)) (Ok left) =
+    subst (λ (o : Option ℤ). Comes (left_of o) (Ok left)) held c.in_ok-left.ensures in
     decides_then t seed (entity_prog s q (option_copied c.args.parameter)) rest key _ _ _ _ c.in_ok-key.ensures
     (decides_then t seed (left_of (parameter_at s.parameters q.number key)) last left _ _ _ _
     (decides_comes t seed (left_of (parameter_at s.parameters q.number key)) (Ok left) _ one) c.loop_with.ensures)
