@@ -51,8 +51,8 @@ keys_of es = map (λ e. e.0) es
 
 -- a RESET moves nobody: each transaction stands where it stood, as it was, and has what it had of its own; each
 -- facility has the owner, each queue, storage and block the content, and each user chain the transactions that it had;
--- savevalues, switches, the clock, the numbering, the streams and what a GENERATE made stay. Each entity keeps its line in
--- the report
+-- savevalues, switches, the clock, the numbering, the streams and what a GENERATE made stay. Each entity keeps its line
+-- in the report
 pub record NobodyMoved (s v : Machine) : Type 0 where
   pub clock : v.clock ≡ s.clock
   pub complete : v.complete ≡ s.complete
@@ -84,7 +84,8 @@ ResetMovesNobody =
     (t : Listing) (seed : ℕ) (s v : Machine) → IsNextCommand t s commands.Reset → step t seed s ≡ Ok v → NobodyMoved s v
 
 -- and what is counted begins at 0: entries of blocks, user chains, queues and storages, captures, zero entries, the
--- values of tables, and the relative clock. Times begin at 0, too, and the least and the greatest content are the present one
+-- values of tables, and the relative clock. Times begin at 0, too, and the least and the greatest content are the
+-- present one
 pub record IsCountedAnew (v : Machine) : Type 0 where
   pub since : v.since ≡ v.clock
   pub blocks : (id : ℕ) → (count_at v.counts id).entries ≡ 0
