@@ -170,25 +170,26 @@ pub anew_next : (cs os : List UserChain) (i j : ℕ) (was now : UserChain) → j
     take i cs ≡ map user_chain_anew (take i os) → drop i cs ≡ drop i os →
     (take j (set cs i now) ≡ map user_chain_anew (take j os)) × (drop j (set cs i now) ≡ drop j os)
 anew_next cs os i j was now next within read is done left =
-    let all = go cs os i within (slice_get_read cs (length cs) i was refl within read) done left in
-    (ap (λ n. take n (set cs i now)) next ∙ (all.0 ∙ ap (λ n. map user_chain_anew (take n os)) (sym next)),
-     ap (λ n. drop n (set cs i now)) next ∙ (all.1 ∙ ap (λ n. drop n os) (sym next))) where
-    go : (cs os : List UserChain) (i : ℕ) → i < length cs → slice_get cs i ≡ Some was → take i cs ≡ map user_chain_anew (take i os) → drop i cs ≡ drop i os →
-        (take (suc i) (set cs i now) ≡ map user_chain_anew (take (suc i) os)) × (drop (suc i) (set cs i now) ≡ drop (suc i) os)
-    go [] os i within at done left = absurd (omega (arith, within))
-    go (c ∷ cs) [] zero within at done left = absurd cc
-    go (c ∷ cs) (o ∷ os) zero within at done left =
-        let same : c ≡ o = cc in
-        let rest : cs ≡ os = cc in
-        let here : c ≡ was = Some_same at in
-        let new : now ≡ user_chain_anew o = is ∙ ap user_chain_anew (sym here ∙ same) in
-        (ap₂ (λ (x : UserChain) (l : List UserChain). x ∷ l) new (ap (take 0) rest ∙ none_taken os), ap (drop 0) rest)
-    go (c ∷ cs) [] (suc i) within at done left = absurd cc
-    go (c ∷ cs) (o ∷ os) (suc i) within at done left =
-        let first : c ≡ user_chain_anew o = cc in
-        let before : take i cs ≡ map user_chain_anew (take i os) = cc in
-        let rest = go cs os i (omega (arith, within)) at before left in
-        (ap₂ (λ (x : UserChain) (l : List UserChain). x ∷ l) first rest.0, rest.1)
+    let all = go cs os i within (slice_get_read cs (length cs) i was refl within read) done left in (
+      ap (λ n. take n (set cs i now)) next ∙ (all.0 ∙ ap (λ n. map user_chain_anew (take n os)) (sym next)),
+      ap (λ n. drop n (set cs i now)) next ∙ (all.1 ∙ ap (λ n. drop n os) (sym next)),
+    ) where
+      go : (cs os : List UserChain) (i : ℕ) → i < length cs → slice_get cs i ≡ Some was → take i cs ≡ map user_chain_anew (take i os) → drop i cs ≡ drop i os →
+          (take (suc i) (set cs i now) ≡ map user_chain_anew (take (suc i) os)) × (drop (suc i) (set cs i now) ≡ drop (suc i) os)
+      go [] os i within at done left = absurd (omega (arith, within))
+      go (c ∷ cs) [] zero within at done left = absurd cc
+      go (c ∷ cs) (o ∷ os) zero within at done left =
+          let same : c ≡ o = cc in
+          let rest : cs ≡ os = cc in
+          let here : c ≡ was = Some_same at in
+          let new : now ≡ user_chain_anew o = is ∙ ap user_chain_anew (sym here ∙ same) in
+          (ap₂ (λ (x : UserChain) (l : List UserChain). x ∷ l) new (ap (take 0) rest ∙ none_taken os), ap (drop 0) rest)
+      go (c ∷ cs) [] (suc i) within at done left = absurd cc
+      go (c ∷ cs) (o ∷ os) (suc i) within at done left =
+          let first : c ≡ user_chain_anew o = cc in
+          let before : take i cs ≡ map user_chain_anew (take i os) = cc in
+          let rest = go cs os i (omega (arith, within)) at before left in
+          (ap₂ (λ (x : UserChain) (l : List UserChain). x ∷ l) first rest.0, rest.1)
 
 -- who is on each stays
 pub members_anew : (l : Linked) → members_of (map (λ c. (c.0, user_chain_anew c.1)) l) ≡ members_of l
@@ -198,9 +199,11 @@ members_anew (c ∷ cs) = ap (λ (m : List (Key × List Transaction)). (c.0, c.1
 pub anew_linked : (ks : List Key) (cs ds : List UserChain) (count : ℕ) → AreLinked ks cs count → ds ≡ map user_chain_anew cs →
     (zip ks ds ≡ map (λ (c : Key × UserChain). (c.0, user_chain_anew c.1)) (zip ks cs)) × AreLinked ks ds count
 anew_linked ks cs ds count kept is =
-    let all = ap (zip ks) is ∙ zip_anew user_chain_anew ks cs in
-    (all, record {
-      apart = kept.apart;
-      beside = ap length is ∙ (length-map cs user_chain_anew ∙ kept.beside);
-      counted = kept.counted ∙ ap (λ m. length (waiting m)) (sym (ap members_of all ∙ members_anew (zip ks cs)));
-    })
+    let all = ap (zip ks) is ∙ zip_anew user_chain_anew ks cs in (
+      all,
+      record {
+        apart = kept.apart;
+        beside = ap length is ∙ (length-map cs user_chain_anew ∙ kept.beside);
+        counted = kept.counted ∙ ap (λ m. length (waiting m)) (sym (ap members_of all ∙ members_anew (zip ks cs)));
+      },
+    )
