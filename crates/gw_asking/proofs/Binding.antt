@@ -13,8 +13,8 @@ use Rattle.gw_meaning.proofs.Programs.{bind_gives, bind_ends}
 use Rattle.gw_uses.specs.Steps.{below}
 use Rattle.gw_uses.specs.Uses.{first_in}
 use Rattle.gw_uses.proofs.UseLaws.{or_later_more, below_later}
-use Rattle.gw_asking.specs.declared.halt.Why.{Why}
-use Rattle.gw_asking.specs.declared.halt.Why.TheVariants as whys
+use Rattle.gw_expr.specs.declared.halt.Halt.{Halt}
+use Rattle.gw_expr.specs.declared.halt.Halt.TheVariants as halts
 use Rattle.gw_asking.specs.Noted.{Noted, Reads, Asks, Keeps}
 use Rattle.gw_asking.specs.Deciding.{Decides, Comes}
 
@@ -71,70 +71,70 @@ keeps_then xs ys zs a b = record {
 }
 
 module _ (t : Listing) (seed : ℕ) where
-  pub decides_then : {A B : Type 0} (p : Eval A) (k : A → Eval B) (a : A) (r : Result B Why) (xs ys zs : Noted) →
+  pub decides_then : {A B : Type 0} (p : Eval A) (k : A → Eval B) (a : A) (r : Result B Halt) (xs ys zs : Noted) →
       Decides t seed p (Ok a) xs ys → Decides t seed (k a) r ys zs → Decides t seed (p ~> k) r xs zs
   decides_then {A} {B} p k a (Ok b) xs ys zs first second =
       let both = bind_gives t seed (p xs.streams) (λ (r : A × List Stream). k r.0 r.1) (a, ys.streams) first.0 in
       (both.0 ∙ second.0, reads_then xs ys zs _ _ _ first.1 second.1 both.1)
-  decides_then {A} {B} p k a (Err (whys.End end)) xs ys zs first second =
+  decides_then {A} {B} p k a (Err (halts.End end)) xs ys zs first second =
       let both = bind_gives t seed (p xs.streams) (λ (r : A × List Stream). k r.0 r.1) (a, ys.streams) first.0 in
       (both.0 ∙ second.0, reads_then xs ys zs _ _ _ first.1 second.1 both.1)
-  decides_then p k a (Err whys.Memory) xs ys zs first second = keeps_then xs ys zs (reads_keep xs ys (items_of t seed (p xs.streams)) first.1) second
+  decides_then p k a (Err halts.Memory) xs ys zs first second = keeps_then xs ys zs (reads_keep xs ys (items_of t seed (p xs.streams)) first.1) second
 
-  pub decides_halt : {A B : Type 0} (p : Eval A) (k : A → Eval B) (halt : Why) (xs ys : Noted) → Decides t seed p (Err halt) xs ys →
+  pub decides_halt : {A B : Type 0} (p : Eval A) (k : A → Eval B) (halt : Halt) (xs ys : Noted) → Decides t seed p (Err halt) xs ys →
       Decides t seed (p ~> k) (Err halt) xs ys
-  decides_halt {A} p k (whys.End end) xs ys h =
+  decides_halt {A} p k (halts.End end) xs ys h =
       let both = bind_ends t seed (p xs.streams) (λ (r : A × List Stream). k r.0 r.1) end h.0 in
       (both.0, subst (λ is. Reads xs is ys) (sym both.1) h.1)
-  decides_halt p k whys.Memory xs ys h = h
+  decides_halt p k halts.Memory xs ys h = h
 
   -- behind a question that was noted
-  pub decides_asked : {B : Type 0} (i : Item) (k : Answer i → Eval B) (r : Result B Why) (xs ys zs : Noted) →
+  pub decides_asked : {B : Type 0} (i : Item) (k : Answer i → Eval B) (r : Result B Halt) (xs ys zs : Noted) →
       Asks xs i ys → Decides t seed (k (ask t seed i)) r ys zs → Decides t seed (asks i k) r xs zs
   decides_asked {B} i k r xs ys zs asked h =
       let same : Ok (ask t seed i, xs.streams) ≡ Ok (ask t seed i, ys.streams) = ap (λ s. Ok (ask t seed i, s)) (sym asked.drawn) in
       decides_then (asks i (λ x. gives x)) k (ask t seed i) r xs ys zs (same, reads_one xs i ys asked) h
 
   -- the exit by `?` behind the first evaluation
-  pub decides_exit : {A B : Type 0} (p : Eval A) (k : A → Eval B) (q : Eval B) (r : Result B Why) (e halt : Why) (xs ys : Noted) →
+  pub decides_exit : {A B : Type 0} (p : Eval A) (k : A → Eval B) (q : Eval B) (r : Result B Halt) (e halt : Halt) (xs ys : Noted) →
       q ≡ (p ~> k) → r ≡ Err e → e ≡ halt → Decides t seed p (Err halt) xs ys → Decides t seed q r xs ys
   decides_exit {A} {B} p k q r e halt xs ys whole is same h =
       let exit : r ≡ Err halt = is ∙ ap (λ f. Err f) same in
       let F : Eval B → Type 0 = λ m. Decides t seed m r xs ys in
-      let G : Result B Why → Type 0 = λ m. Decides t seed (p ~> k) m xs ys in
+      let G : Result B Halt → Type 0 = λ m. Decides t seed (p ~> k) m xs ys in
       subst F (sym whole) (subst G (sym exit) (decides_halt p k halt xs ys h))
 
   -- the same, of what the exit says
-  pub decides_left : {A B : Type 0} (p : Eval A) (k : A → Eval B) (r : Result B Why) (halt : Why) (xs ys : Noted) →
+  pub decides_left : {A B : Type 0} (p : Eval A) (k : A → Eval B) (r : Result B Halt) (halt : Halt) (xs ys : Noted) →
       IsErrAnd r (λ e. e ≡ halt) → Decides t seed p (Err halt) xs ys → Decides t seed (p ~> k) r xs ys
   decides_left p k (Ok b) halt xs ys exit h = absurd exit
   decides_left p k (Err e) halt xs ys exit h =
-      subst (λ (f : Why). Decides t seed (p ~> k) (Err f) xs ys) (sym exit) (decides_halt p k halt xs ys h)
+      subst (λ (f : Halt). Decides t seed (p ~> k) (Err f) xs ys) (sym exit) (decides_halt p k halt xs ys h)
 
   -- the rest behind the first evaluation
-  pub decides_whole : {A B : Type 0} (p : Eval A) (k : A → Eval B) (q : Eval B) (a : A) (r : Result B Why) (xs ys zs : Noted) →
+  pub decides_whole : {A B : Type 0} (p : Eval A) (k : A → Eval B) (q : Eval B) (a : A) (r : Result B Halt) (xs ys zs : Noted) →
       q ≡ (p ~> k) → Decides t seed p (Ok a) xs ys → Decides t seed (k a) r ys zs → Decides t seed q r xs zs
   decides_whole {A} {B} p k q a r xs ys zs whole first second =
       let F : Eval B → Type 0 = λ m. Decides t seed m r xs zs in
       subst F (sym whole) (decides_then p k a r xs ys zs first second)
 
   -- what neither asks nor draws
-  pub decides_comes : {B : Type 0} (p : Eval B) (r : Result B Why) (xs : Noted) → Comes p r → Decides t seed p r xs xs
+  pub decides_comes : {B : Type 0} (p : Eval B) (r : Result B Halt) (xs : Noted) → Comes p r → Decides t seed p r xs xs
   decides_comes {B} p (Ok b) xs is =
       let F : Eval B → Type 0 = λ q. Decides t seed q (Ok b) xs xs in
       subst F (sym is) (refl, reads_none xs)
-  decides_comes {B} p (Err (whys.End end)) xs is =
-      let F : Eval B → Type 0 = λ q. Decides t seed q (Err (whys.End end)) xs xs in
+  decides_comes {B} p (Err (halts.End end)) xs is =
+      let F : Eval B → Type 0 = λ q. Decides t seed q (Err (halts.End end)) xs xs in
       subst F (sym is) (refl, reads_none xs)
-  decides_comes p (Err whys.Memory) xs is = keeps_all xs
+  decides_comes p (Err halts.Memory) xs is = keeps_all xs
 
   -- what gives b at once
   pub decides_gives : {B : Type 0} (b : B) (xs : Noted) → Decides t seed (gives b) (Ok b) xs xs
   decides_gives b xs = (refl, reads_none xs)
 
   -- the exit where memory is refused
-  pub decides_memory : {B : Type 0} (q : Eval B) (r : Result B Why) (e : Why) (xs ys : Noted) → r ≡ Err e → e ≡ whys.Memory → Keeps xs ys →
+  pub decides_memory : {B : Type 0} (q : Eval B) (r : Result B Halt) (e : Halt) (xs ys : Noted) → r ≡ Err e → e ≡ halts.Memory → Keeps xs ys →
       Decides t seed q r xs ys
   decides_memory {B} q r e xs ys is same h =
-      let exit : r ≡ Err whys.Memory = is ∙ ap (λ f. Err f) same in
-      subst (λ (m : Result B Why). Decides t seed q m xs ys) (sym exit) h
+      let exit : r ≡ Err halts.Memory = is ∙ ap (λ f. Err f) same in
+      subst (λ (m : Result B Halt). Decides t seed q m xs ys) (sym exit) h

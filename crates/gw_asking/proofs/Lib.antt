@@ -1,2 +1,1 @@
 pub mod Binding
-pub mod Halting

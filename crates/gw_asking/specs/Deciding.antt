@@ -15,20 +15,20 @@ use Rattle.gw_meaning.specs.Listing.{Listing}
 use Rattle.gw_meaning.specs.Questions.{result_of, items_of}
 use Rattle.gw_meaning.specs.Evaluation.{Eval, gives, ends_with, asks, stops_if}
 use Rattle.gw_asking.specs.Noted.{Noted, Reads, Keeps}
-use Rattle.gw_asking.specs.declared.halt.Why.{Why}
-use Rattle.gw_asking.specs.declared.halt.Why.TheVariants as whys
+use Rattle.gw_expr.specs.declared.halt.Halt.{Halt}
+use Rattle.gw_expr.specs.declared.halt.Halt.TheVariants as halts
 
 -- the result, the questions and the streams behind the draws are the evaluation's; only a refused growth leaves them
 -- open, and it keeps what was noted of earlier steps
-abbrev pub Decides : {A : Type 0} → Listing → ℕ → Eval A → Result A Why → Noted → Noted → Type 0
+abbrev pub Decides : {A : Type 0} → Listing → ℕ → Eval A → Result A Halt → Noted → Noted → Type 0
 Decides t seed p (Ok a) old new =
     (result_of t seed (p old.streams) ≡ Ok (a, new.streams)) × Reads old (items_of t seed (p old.streams)) new
-Decides t seed p (Err (whys.End end)) old new =
+Decides t seed p (Err (halts.End end)) old new =
     (result_of t seed (p old.streams) ≡ Err end) × Reads old (items_of t seed (p old.streams)) new
-Decides t seed p (Err whys.Memory) old new = Keeps old new
+Decides t seed p (Err halts.Memory) old new = Keeps old new
 
 -- the same, of an evaluation that neither asks nor draws; only a refused growth leaves it open
-abbrev pub Comes : {A : Type 0} → Eval A → Result A Why → Type 0
+abbrev pub Comes : {A : Type 0} → Eval A → Result A Halt → Type 0
 Comes p (Ok a) = p ≡ gives a
-Comes p (Err (whys.End end)) = p ≡ ends_with end
-Comes p (Err whys.Memory) = Unit {0}
+Comes p (Err (halts.End end)) = p ≡ ends_with end
+Comes p (Err halts.Memory) = Unit {0}

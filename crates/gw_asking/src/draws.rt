@@ -8,9 +8,8 @@ ghost use Rattle.gw_asking.specs.Deciding.{Decides, Comes};
 ghost use Rattle.gw_asking.specs.Noted.{Asks};
 
 use crate::case::Case;
-use crate::halt::Halt;
 use crate::notes::Notes;
-use gw_expr::{Atom, Expr, Node, Subject, is_of_function};
+use gw_expr::{Atom, Expr, Halt, Node, Stop, Subject, is_of_function};
 use gw_meaning::Item;
 use gw_nums::{Millionths, Val, times};
 use std::alloc::AllocError;
@@ -61,7 +60,7 @@ pub fn multiplied(mean: Val, by: Millionths) -> Result<Val, Halt>
 {
     match times(mean, by) {
         Some(time) => Ok(time),
-        None => Err(Halt::RANGE),
+        None => Err(Halt::stop(Stop::Range)),
     }
 }
 
@@ -88,7 +87,7 @@ fn sample_within(case: Case, notes: &mut Notes, mean: Val, range: u64) -> Result
     let number = draw(case, notes, 1)?;
     match spread(mean, range, number) {
         Some(time) => Ok(time),
-        None => Err(Halt::RANGE),
+        None => Err(Halt::stop(Stop::Range)),
     }
 }
 

@@ -1,13 +1,12 @@
-//! What a step asks, draws and notes, and why no step is made.
+//! What a step asks, draws and notes.
 //!
 //! A [`Case`] is the version and the seed that a run is of. Each question to it notes its item ([`Notes`]). A function
-//! that asks gives what its evaluation in the definitions comes to, or a [`Halt`]. Where memory is refused,
+//! that asks gives what its evaluation in the definitions comes to, or a [`gw_expr::Halt`]. Where memory is refused,
 //! what earlier steps noted stays.
 #![tactic(auto)]
 
 mod case;
 mod draws;
-mod halt;
 mod notes;
 
 pub use case::{
@@ -15,5 +14,4 @@ pub use case::{
     ask_next, ask_number, ask_within,
 };
 pub use draws::{draw, millionths, modifier_of, multiplied, sample};
-pub use halt::{Halt, Why};
 pub use notes::Notes;

@@ -1,6 +1,6 @@
 -- Where a report is taken of a run that ends at a moment. (Our own.)
 use Rattle.std.specs.Prelude.{ℕ, ◌+◌, ◌==◌, Option, Some, None, if◌then◌else◌}
-use Rattle.gw_meaning.specs.declared.item.End.{End}
+use Rattle.gw_expr.specs.declared.halt.End.{End}
 use Rattle.gw_meaning.specs.declared.item.Outcome.{Outcome}
 use Rattle.gw_meaning.specs.Point.{outcome_of}
 use Rattle.gw_desk.specs.declared.look.Look.{Look}

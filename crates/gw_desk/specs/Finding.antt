@@ -1,6 +1,6 @@
 -- The search for the point of START k: from a state on, up to so many steps more. (Our own.)
 use Rattle.std.specs.Prelude.{ℕ, zero, suc, ◌+◌, ◌==◌, Option, Some, None, Result, Ok, Err, if◌then◌else◌}
-use Rattle.gw_meaning.specs.declared.item.End.{End}
+use Rattle.gw_expr.specs.declared.halt.End.{End}
 use Rattle.gw_meaning.specs.declared.item.Outcome.{Outcome}
 use Rattle.gw_meaning.specs.declared.item.Outcome.TheVariants as outcomes
 use Rattle.gw_meaning.specs.Listing.{Listing}

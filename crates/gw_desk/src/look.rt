@@ -7,7 +7,8 @@ ghost use Rattle.gw_record.specs.Tape.{Records};
 ghost use Rattle.gw_desk.specs.Looking.{Sees, IsStopped};
 ghost use Rattle.gw_desk.specs.Ending.{seen_at_end};
 
-use gw_meaning::{End, Outcome};
+use gw_expr::End;
+use gw_meaning::Outcome;
 use gw_model::Version;
 use gw_record::{Reach, Recorded};
 use gw_scan::end_at;

@@ -2,7 +2,7 @@
 use Rattle.std.proofs.Common.{◌≡◌, ℕ, ◌+◌, ◌<◌, ◌≤◌, ℤ, List, ◌∷◌, take, drop, get_or, length, Result, Ok, Err}
 use Rattle.std.proofs.lemmas.List.{take_more, drop_more, take_all, take-append-drop}
 use Rattle.gw_expr.specs.declared.atom.Atom.{Atom}
-use Rattle.gw_expr.specs.declared.eval_fault.Fault.{Fault}
+use Rattle.gw_expr.specs.declared.halt.Halt.{Halt}
 use Rattle.gw_expr.specs.declared.token.Token.{Token}
 use Rattle.gw_expr.specs.declared.token.Token.TheVariants as tokens
 use Rattle.gw_expr.specs.Evaluation.{Question, Reply, Definitions, value_of_atom, after_token, after_tokens, last_value, ◌⟫◌}
@@ -10,7 +10,7 @@ use Rattle.gw_expr.specs.Worlds.{Evaluates, Comes, yields}
 use Rattle.gw_expr.proofs.Expressions.{parts_then, then_assoc}
 use Rattle.gw_expr.proofs.Worlds.{then_goes, then_fails, goes_comes}
 
-module _ {W : Type 0} {says : (q : Question) → Reply q → Type 0} {replies : (q : Question) → W → Result (Reply q) Fault → W → Type 0}
+module _ {W : Type 0} {says : (q : Question) → Reply q → Type 0} {replies : (q : Question) → W → Result (Reply q) Halt → W → Type 0}
     (defined : Definitions) (values : List ℤ) where
   -- a part is a value, which goes in front of those that wait
   pub value_goes : {t : Token} {atom : Atom} {more : List ℤ} {v : ℤ} {xs ys : W} → t ≡ tokens.Value atom → more ≡ v ∷ values →
@@ -18,24 +18,24 @@ module _ {W : Type 0} {says : (q : Question) → Reply q → Type 0} {replies : 
   value_goes is waits h = rw (is, waits) (then_goes _ h (yields _ _))
 
   -- it has no value
-  pub value_fails : {t : Token} {atom : Atom} {fault : Fault} {xs ys : W} → t ≡ tokens.Value atom →
+  pub value_fails : {t : Token} {atom : Atom} {fault : Halt} {xs ys : W} → t ≡ tokens.Value atom →
       Evaluates says replies (value_of_atom defined atom) (Err fault) xs ys → Evaluates says replies (after_token defined t values) (Err fault) xs ys
   value_fails is h = rw is (then_fails _ h)
 
 -- of the few values that waited, the first i parts made these
-pub record HaveLeft {W : Type 0} (says : (q : Question) → Reply q → Type 0) (replies : (q : Question) → W → Result (Reply q) Fault → W → Type 0)
+pub record HaveLeft {W : Type 0} (says : (q : Question) → Reply q → Type 0) (replies : (q : Question) → W → Result (Reply q) Halt → W → Type 0)
     (defined : Definitions) (ts : List Token) (few : List ℤ) (xs : W) (i : ℕ) (values : List ℤ) (ys : W) : Type 0 where
   pub so_far : Evaluates says replies (after_tokens defined (take i ts) few) (Ok values) xs ys
 
-module _ {W : Type 0} {says : (q : Question) → Reply q → Type 0} {replies : (q : Question) → W → Result (Reply q) Fault → W → Type 0}
+module _ {W : Type 0} {says : (q : Question) → Reply q → Type 0} {replies : (q : Question) → W → Result (Reply q) Halt → W → Type 0}
     {defined : Definitions} {ts : List Token} {few values : List ℤ} {xs ys : W} {i : ℕ} (left : HaveLeft says replies defined ts few xs i values ys) where
   -- what those behind them come to is what all come to
-  pub rest_goes : {r : Result ℤ Fault} {zs : W} → Evaluates says replies (after_tokens defined (drop i ts) values ⟫ last_value) r ys zs →
+  pub rest_goes : {r : Result ℤ Halt} {zs : W} → Evaluates says replies (after_tokens defined (drop i ts) values ⟫ last_value) r ys zs →
       Evaluates says replies (after_tokens defined ts few ⟫ last_value) r xs zs
   rest_goes h = rw (← take-append-drop i ts, parts_then, then_assoc) (then_goes _ left.so_far h)
 
   -- the next part fails
-  pub part_fails : {t : Token} {fault : Fault} {zs : W} → i < length ts → t ≡ get_or ts i t →
+  pub part_fails : {t : Token} {fault : Halt} {zs : W} → i < length ts → t ≡ get_or ts i t →
       Evaluates says replies (after_token defined t values) (Err fault) ys zs →
       Evaluates says replies (after_tokens defined ts few ⟫ last_value) (Err fault) xs zs
   part_fails {t} there is h = rest_goes (rw (drop_more ts i t there, ← is) (then_fails _ (then_fails _ h)))
@@ -47,6 +47,6 @@ module _ {W : Type 0} {says : (q : Question) → Reply q → Type 0} {replies : 
       record { so_far = rw (take_more ts i t there, ← is, parts_then) (then_goes _ left.so_far (then_goes _ h (yields _ _))) }
 
   -- there is no next part
-  pub parts_end : {r : Result ℤ Fault} → length ts ≤ i → Comes (last_value values) r →
+  pub parts_end : {r : Result ℤ Halt} → length ts ≤ i → Comes (last_value values) r →
       Evaluates says replies (after_tokens defined ts few ⟫ last_value) r xs ys
   parts_end all is = then_goes _ (rw take_all at left.so_far) (goes_comes _ is)

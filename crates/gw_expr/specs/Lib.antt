@@ -3,7 +3,6 @@ pub mod Expressions
 pub mod Symbols
 pub mod Term
 pub mod Stops
-pub mod Faults
 pub mod Functions
 pub mod Evaluation
 pub mod Worlds

@@ -5,7 +5,8 @@ ghost use Rattle.gw_expr.specs.Worlds.{Says, Evaluates, Comes, in_place};
 
 use crate::atom::Atom;
 use crate::attribute::{Sna, Subject};
-use crate::eval_fault::EvalFault;
+use crate::halt::Halt;
+use crate::stop::Stop;
 use crate::expr::{Expr, Node};
 use crate::few_values::{FEW, FewValues};
 use crate::function::Function;
@@ -25,7 +26,7 @@ const DEEPEST: u32 = 32;
 /// of memory is answered where more than 128 values wait, or where the world runs out of it. What the world noted and
 /// drew up to there stays.
 #[tactic(auto, unfolding(crate::specs::Evaluation::value_of))]
-pub fn eval<D: Defs, W: World>(operand: &Expr, defs: &D, world: &mut W) -> Result<Val, EvalFault>
+pub fn eval<D: Defs, W: World>(operand: &Expr, defs: &D, world: &mut W) -> Result<Val, Halt>
     ensures { Evaluates (Says (D.variable_of defs.now) (D.function_of defs.now)) W.replies
         (value_of operand.now) result world.old world.new }
 {
@@ -43,7 +44,7 @@ pub fn eval_function<D: Defs, W: World>(
     of: &Subject,
     defs: &D,
     world: &mut W,
-) -> Result<Millionths, EvalFault>
+) -> Result<Millionths, Halt>
     ensures { Evaluates (Says (D.variable_of defs.now) (D.function_of defs.now)) W.replies
         (function_of of.now) result world.old world.new }
 {
@@ -60,7 +61,7 @@ fn term<D: Defs, W: World>(
     world: &mut W,
     depth: u32,
     operand: &Expr,
-) -> Result<Val, EvalFault>
+) -> Result<Val, Halt>
     ensures { Evaluates (Says (D.variable_of defs.now) (D.function_of defs.now)) W.replies
         (value_by (definitions_within depth) operand.now) result world.old world.new }
 {
@@ -68,7 +69,7 @@ fn term<D: Defs, W: World>(
         Node::Value(atom) => alone(defs, world, depth, atom),
         Node::Computed(tokens) if tokens.len() > FEW => computed_long(defs, world, depth, tokens),
         Node::Computed(tokens) => computed(defs, world, depth, tokens),
-        _ => Err(EvalFault::RANGE),
+        _ => Err(Halt::stop(Stop::Range)),
     }
 }
 
@@ -81,7 +82,7 @@ fn of_atom<D: Defs, W: World>(
     world: &mut W,
     depth: u32,
     atom: &Atom,
-) -> Result<Val, EvalFault>
+) -> Result<Val, Halt>
     ensures { Evaluates (Says (D.variable_of defs.now) (D.function_of defs.now)) W.replies
         (value_of_atom (definitions_within depth) atom.now) result world.old world.new }
 {
@@ -108,7 +109,7 @@ fn alone<D: Defs, W: World>(
     world: &mut W,
     depth: u32,
     atom: &Atom,
-) -> Result<Val, EvalFault>
+) -> Result<Val, Halt>
     ensures { Evaluates (Says (D.variable_of defs.now) (D.function_of defs.now)) W.replies
         (value_of_atom (definitions_within depth) atom.now) result world.old world.new }
 {
@@ -124,20 +125,20 @@ fn of_variable<D: Defs, W: World>(
     world: &mut W,
     depth: u32,
     of: &Subject,
-) -> Result<Val, EvalFault>
+) -> Result<Val, Halt>
     ensures { Evaluates (Says (D.variable_of defs.now) (D.function_of defs.now)) W.replies
         (of_variable (definitions_within depth) of.now) result world.old world.new }
 {
     let Subject::Name(name) = of else {
-        return Err(EvalFault::RANGE);
+        return Err(Halt::stop(Stop::Range));
     };
     if depth == 0 {
-        return Err(EvalFault::VARIABLE_DEPTH);
+        return Err(Halt::stop(Stop::VariableDepth));
     }
     world.note_variable(name)?;
     match defs.variable(name) {
         Some(expression) => term(defs, world, depth - 1, expression),
-        None => Err(EvalFault::RANGE),
+        None => Err(Halt::stop(Stop::Range)),
     }
 }
 
@@ -149,7 +150,7 @@ fn whole_of_function<D: Defs, W: World>(
     world: &mut W,
     depth: u32,
     of: &Subject,
-) -> Result<Val, EvalFault>
+) -> Result<Val, Halt>
     ensures { Evaluates (Says (D.variable_of defs.now) (D.function_of defs.now)) W.replies
         (whole_of_function (definitions_within depth) of.now) result world.old world.new }
 {
@@ -166,20 +167,20 @@ fn of_function<D: Defs, W: World>(
     world: &mut W,
     depth: u32,
     of: &Subject,
-) -> Result<Millionths, EvalFault>
+) -> Result<Millionths, Halt>
     ensures { Evaluates (Says (D.variable_of defs.now) (D.function_of defs.now)) W.replies
         (of_function (definitions_within depth) of.now) result world.old world.new }
 {
     let Subject::Name(name) = of else {
-        return Err(EvalFault::RANGE);
+        return Err(Halt::stop(Stop::Range));
     };
     if depth == 0 {
-        return Err(EvalFault::VARIABLE_DEPTH);
+        return Err(Halt::stop(Stop::VariableDepth));
     }
     world.note_function(name)?;
     match defs.function(name) {
         Some(function) => at_argument(defs, world, depth - 1, function),
-        None => Err(EvalFault::RANGE),
+        None => Err(Halt::stop(Stop::Range)),
     }
 }
 
@@ -191,7 +192,7 @@ fn at_argument<D: Defs, W: World>(
     world: &mut W,
     depth: u32,
     function: &Function,
-) -> Result<Millionths, EvalFault>
+) -> Result<Millionths, Halt>
     ensures { Evaluates (Says (D.variable_of defs.now) (D.function_of defs.now)) W.replies
         (function_given (argument_by (definitions_within depth)) (Some function.now)) result world.old world.new }
 {
@@ -207,7 +208,7 @@ fn argument<D: Defs, W: World>(
     world: &mut W,
     depth: u32,
     argument: &Expr,
-) -> Result<Millionths, EvalFault>
+) -> Result<Millionths, Halt>
     ensures { Evaluates (Says (D.variable_of defs.now) (D.function_of defs.now)) W.replies
         (argument_by (definitions_within depth) argument.now) result world.old world.new }
 {
@@ -225,7 +226,7 @@ fn whole_argument<D: Defs, W: World>(
     world: &mut W,
     depth: u32,
     argument: &Expr,
-) -> Result<Millionths, EvalFault>
+) -> Result<Millionths, Halt>
     ensures { Evaluates (Says (D.variable_of defs.now) (D.function_of defs.now)) W.replies
         (argument_with (definitions_within depth) argument.now None) result world.old world.new }
 {
@@ -241,7 +242,7 @@ fn computed<D: Defs, W: World>(
     world: &mut W,
     depth: u32,
     tokens: &[Token],
-) -> Result<Val, EvalFault>
+) -> Result<Val, Halt>
     requires { length tokens.now ≤ 16 }
     ensures { Evaluates (Says (D.variable_of defs.now) (D.function_of defs.now)) W.replies
         (after_tokens (definitions_within depth) tokens.now [] ⟫ last_value) result world.old world.new }
@@ -262,7 +263,7 @@ fn part_of_few<D: Defs, W: World>(
     depth: u32,
     token: &Token,
     values: &mut FewValues,
-) -> Result<(), EvalFault>
+) -> Result<(), Halt>
     requires { length values.old < 16 }
     ensures evaluates { Evaluates (Says (D.variable_of defs.now) (D.function_of defs.now)) W.replies
         (after_token (definitions_within depth) token.now values.old) (in_place result values.new) world.old world.new }
@@ -288,7 +289,7 @@ fn computed_long<D: Defs, W: World>(
     world: &mut W,
     depth: u32,
     tokens: &[Token],
-) -> Result<Val, EvalFault>
+) -> Result<Val, Halt>
     ensures { Evaluates (Says (D.variable_of defs.now) (D.function_of defs.now)) W.replies
         (after_tokens (definitions_within depth) tokens.now [] ⟫ last_value) result world.old world.new }
 {
@@ -308,7 +309,7 @@ fn part_of_many<D: Defs, W: World>(
     depth: u32,
     token: &Token,
     values: &mut ManyValues,
-) -> Result<(), EvalFault>
+) -> Result<(), Halt>
     ensures { Evaluates (Says (D.variable_of defs.now) (D.function_of defs.now)) W.replies
         (after_token (definitions_within depth) token.now values.old) (in_place result values.new) world.old world.new }
 {
@@ -365,19 +366,19 @@ fn random_of(operand: &Expr) -> Option<&Subject>
 }
 
 // What a FUNCTION comes to, where it has a point.
-fn point_found(y: Option<Millionths>) -> Result<Millionths, EvalFault>
+fn point_found(y: Option<Millionths>) -> Result<Millionths, Halt>
     ensures { Comes (point_found y) result }
 {
     match y {
         Some(y) => Ok(y),
-        None => Err(EvalFault::RANGE),
+        None => Err(Halt::stop(Stop::Range)),
     }
 }
 
 // The number that a name stands for, where it stands for one. Never inlined, so that the loop over the parts keeps its
 // registers; `defs` stands for the contract alone.
 #[inline(never)]
-fn of_number<D: Defs, W: World>(defs: &D, world: &mut W, name: &Name) -> Result<Val, EvalFault>
+fn of_number<D: Defs, W: World>(defs: &D, world: &mut W, name: &Name) -> Result<Val, Halt>
     ensures { Evaluates (Says (D.variable_of defs.now) (D.function_of defs.now)) W.replies
         (Wants (NumberOf name.now) number_given) result world.old world.new }
 {
@@ -385,11 +386,11 @@ fn of_number<D: Defs, W: World>(defs: &D, world: &mut W, name: &Name) -> Result<
 }
 
 // The same, of what the world replied.
-fn number_given(number: Option<Val>) -> Result<Val, EvalFault>
+fn number_given(number: Option<Val>) -> Result<Val, Halt>
     ensures { Comes (number_given number) result }
 {
     match number {
         Some(number) => Ok(number),
-        None => Err(EvalFault::RANGE),
+        None => Err(Halt::stop(Stop::Range)),
     }
 }

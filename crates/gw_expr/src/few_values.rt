@@ -3,7 +3,8 @@ ghost use Rattle.gw_expr.specs.Evaluation.{negated_last, applied_last, last_valu
 ghost use Rattle.gw_expr.specs.Worlds.{Comes, in_place};
 ghost use Rattle.gw_expr.specs.WaitingValues.{Pops, last_of, last_two, replaced, joined};
 
-use crate::eval_fault::EvalFault;
+use crate::halt::Halt;
+use crate::stop::Stop;
 use crate::token::Operator;
 use gw_nums::Val;
 use std::marker::Model;
@@ -69,12 +70,12 @@ impl FewValues {
 
     // The last value with the other sign.
     #[inline(always)]
-    pub(crate) fn negate_last(&mut self) -> Result<(), EvalFault>
+    pub(crate) fn negate_last(&mut self) -> Result<(), Halt>
         ensures comes { Comes (negated_last self.old) (in_place result self.new) }
         ensures as_many { OnOk result (length self.new ≡ length self.old) }
     {
         let Some(value) = self.pop() else {
-            return Err(EvalFault::RANGE);
+            return Err(Halt::stop(Stop::Range));
         };
         self.push(value.negated());
         Ok(())
@@ -83,12 +84,12 @@ impl FewValues {
     // What an operator makes of the last two values.
     #[inline(always)]
     #[tactic(auto, using(crate::proofs::Waiting::joined_fewer))]
-    pub(crate) fn apply_last(&mut self, operator: Operator) -> Result<(), EvalFault>
+    pub(crate) fn apply_last(&mut self, operator: Operator) -> Result<(), Halt>
         ensures comes { Comes (applied_last operator self.old) (in_place result self.new) }
         ensures fewer { OnOk result (length self.new ≤ length self.old) }
     {
         let Some((a, b)) = self.last_two() else {
-            return Err(EvalFault::RANGE);
+            return Err(Halt::stop(Stop::Range));
         };
         let value = operator.value(a, b)?;
         self.join_two(value);
@@ -127,11 +128,11 @@ impl FewValues {
 
     // The value that is left.
     #[inline(always)]
-    pub(crate) fn last(&self) -> Result<Val, EvalFault>
+    pub(crate) fn last(&self) -> Result<Val, Halt>
         ensures { Comes (last_value self.now) result }
     {
         if self.count == 0 {
-            return Err(EvalFault::RANGE);
+            return Err(Halt::stop(Stop::Range));
         }
         Ok(self.few[self.count - 1])
     }

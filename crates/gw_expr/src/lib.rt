@@ -10,11 +10,11 @@
 
 mod atom;
 mod attribute;
-mod eval_fault;
 mod evaluator;
 mod expr;
 mod few_values;
 mod function;
+mod halt;
 mod laws;
 mod many_values;
 mod row;
@@ -25,10 +25,10 @@ mod world;
 
 pub use atom::Atom;
 pub use attribute::{Sna, Subject};
-pub use eval_fault::{EvalFault, Fault};
 pub use evaluator::{eval, eval_function, is_of_function};
 pub use expr::{Discipline, Expr, Node};
 pub use function::{Function, FunctionType, Point};
+pub use halt::{End, Halt};
 pub use laws::{
     constants_hang_on_nothing, expressions_have_their_values, points_have_their_values,
 };

@@ -3,7 +3,8 @@ ghost use Rattle.gw_expr.specs.Evaluation.{negated_last, applied_last, last_valu
 ghost use Rattle.gw_expr.specs.WaitingValues.{Pops};
 ghost use Rattle.gw_expr.specs.Worlds.{Comes, in_place};
 
-use crate::eval_fault::EvalFault;
+use crate::halt::Halt;
+use crate::stop::Stop;
 use crate::token::Operator;
 use arrayvec::ArrayVec;
 use gw_nums::Val;
@@ -62,25 +63,25 @@ impl ManyValues {
     }
 
     // The last value with the other sign.
-    pub(crate) fn negate_last(&mut self) -> Result<(), EvalFault>
+    pub(crate) fn negate_last(&mut self) -> Result<(), Halt>
         ensures { Comes (negated_last self.old) (in_place result self.new) }
     {
         let Some(value) = self.pop() else {
-            return Err(EvalFault::RANGE);
+            return Err(Halt::stop(Stop::Range));
         };
         self.push(value.negated())?;
         Ok(())
     }
 
     // What an operator makes of the last two values.
-    pub(crate) fn apply_last(&mut self, operator: Operator) -> Result<(), EvalFault>
+    pub(crate) fn apply_last(&mut self, operator: Operator) -> Result<(), Halt>
         ensures { Comes (applied_last operator self.old) (in_place result self.new) }
     {
         let Some(b) = self.pop() else {
-            return Err(EvalFault::RANGE);
+            return Err(Halt::stop(Stop::Range));
         };
         let Some(a) = self.pop() else {
-            return Err(EvalFault::RANGE);
+            return Err(Halt::stop(Stop::Range));
         };
         let value = operator.value(a, b)?;
         self.push(value)?;
@@ -88,12 +89,12 @@ impl ManyValues {
     }
 
     // The value that is left.
-    pub(crate) fn last(&mut self) -> Result<Val, EvalFault>
+    pub(crate) fn last(&mut self) -> Result<Val, Halt>
         ensures { Comes (last_value self.old) result }
     {
         match self.pop() {
             Some(value) => Ok(value),
-            None => Err(EvalFault::RANGE),
+            None => Err(Halt::stop(Stop::Range)),
         }
     }
 }

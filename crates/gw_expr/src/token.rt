@@ -4,7 +4,8 @@ ghost use Rattle.gw_expr.specs.Evaluation.{arithmetic};
 ghost use Rattle.gw_expr.specs.Worlds.{Comes};
 
 use crate::atom::Atom;
-use crate::eval_fault::EvalFault;
+use crate::halt::Halt;
+use crate::stop::Stop;
 use gw_nums::{ArithmeticFault, Val, add, div, mul, rem, sub};
 
 /// An operator between two values.
@@ -49,13 +50,13 @@ impl Operator {
 
     // The same in an evaluation, which stops where there is no value.
     #[inline(always)]
-    pub(crate) fn value(self, a: Val, b: Val) -> Result<Val, EvalFault>
+    pub(crate) fn value(self, a: Val, b: Val) -> Result<Val, Halt>
         ensures { Comes (arithmetic (applied self a b)) result }
     {
         match self.apply(a, b) {
             Ok(value) => Ok(value),
-            Err(ArithmeticFault::Range) => Err(EvalFault::RANGE),
-            Err(ArithmeticFault::ZeroDivisor) => Err(EvalFault::ZERO_DIVISOR),
+            Err(ArithmeticFault::Range) => Err(Halt::stop(Stop::Range)),
+            Err(ArithmeticFault::ZeroDivisor) => Err(Halt::stop(Stop::ZeroDivisor)),
         }
     }
 }

@@ -1,13 +1,13 @@
 // Whom an evaluation asks.
 ghost use Rattle.std.specs.Prelude.{◌≡◌, ℕ, List, Option, Result, option_copied};
-ghost use Rattle.gw_expr.specs.declared.eval_fault.Fault.{Fault};
+ghost use Rattle.gw_expr.specs.declared.halt.Halt.{Halt};
 ghost use Rattle.gw_expr.specs.declared.function.Function.{Function};
 ghost use Rattle.gw_expr.specs.Evaluation.{Question, NumberOf, AttributeOf, PartOf, VariableOf, FunctionOf, Reply};
 ghost use Rattle.gw_expr.specs.Term.{Term};
 ghost use Rattle.gw_expr.specs.Worlds.{with_reply};
 
 use crate::attribute::{Sna, Subject};
-use crate::eval_fault::EvalFault;
+use crate::halt::Halt;
 use crate::expr::Expr;
 use crate::function::Function;
 use gw_names::Name;
@@ -32,27 +32,27 @@ pub trait Defs {
 /// question asks for it.
 pub trait World {
     /// What the world may reply to a question, and what it then is.
-    ghost replies: { (q : Question) → Self → Result (Reply q) Fault → Self → Type 0 };
+    ghost replies: { (q : Question) → Self → Result (Reply q) Halt → Self → Type 0 };
 
     /// The number that a name stands for, if any.
-    fn number(&mut self, name: &Name) -> Result<Option<Val>, EvalFault>
+    fn number(&mut self, name: &Name) -> Result<Option<Val>, Halt>
         ensures { replies (NumberOf name.now) self.old result self.new };
 
     /// The value of an attribute other than that of a VARIABLE or of a FUNCTION.
-    fn attribute(&mut self, sna: Sna<'_>) -> Result<Val, EvalFault>
+    fn attribute(&mut self, sna: Sna<'_>) -> Result<Val, Halt>
         ensures { replies (AttributeOf sna.entry.class sna.entry.of.now) self.old result self.new };
 
     /// A random number from a stream, as a part of a million.
-    fn part(&mut self, of: &Subject) -> Result<Millionths, EvalFault>
+    fn part(&mut self, of: &Subject) -> Result<Millionths, Halt>
         ensures { replies (PartOf of.now) self.old result self.new };
 
     /// Notes that the VARIABLE of this name is asked for.
-    fn note_variable(&mut self, name: &Name) -> Result<(), EvalFault>
+    fn note_variable(&mut self, name: &Name) -> Result<(), Halt>
         ensures { (reply : Option Term) →
             replies (VariableOf name.now) self.old (with_reply reply result) self.new };
 
     /// Notes that the FUNCTION of this name is asked for.
-    fn note_function(&mut self, name: &Name) -> Result<(), EvalFault>
+    fn note_function(&mut self, name: &Name) -> Result<(), Halt>
         ensures { (reply : Option Function) →
             replies (FunctionOf name.now) self.old (with_reply reply result) self.new };
 }

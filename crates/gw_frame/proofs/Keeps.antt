@@ -6,7 +6,7 @@ use Rattle.gw_expr.specs.declared.stop.Stop.{Stop}
 use Rattle.gw_streams.specs.declared.stream.Stream.{Stream}
 use Rattle.gw_meaning.specs.declared.item.Item.{Item}
 use Rattle.gw_meaning.specs.declared.item.Item.TheVariants as items
-use Rattle.gw_meaning.specs.declared.item.End.{End}
+use Rattle.gw_expr.specs.declared.halt.End.{End}
 use Rattle.gw_meaning.specs.Listing.{Listing}
 use Rattle.gw_meaning.specs.Questions.{Answer, ask, Prog, Gives, Ends, result_of, items_of, ◌>>=◌}
 use Rattle.gw_meaning.specs.Reads.{is_use}

@@ -1,7 +1,7 @@
 -- The run, step by step: what it asked, and what a version does that answers alike.
 use Rattle.std.proofs.Common.{◌≡◌, ℕ, zero, suc, List, ◌++◌, Result, Ok, Err, refl, ap, sym, subst, ◌∙◌, arith, below_more}
 use Rattle.gw_meaning.specs.declared.item.Item.{Item}
-use Rattle.gw_meaning.specs.declared.item.End.{End}
+use Rattle.gw_expr.specs.declared.halt.End.{End}
 use Rattle.gw_meaning.specs.Listing.{Listing}
 use Rattle.gw_meaning.specs.Machine.{Machine}
 use Rattle.gw_meaning.specs.Questions.{items_of}

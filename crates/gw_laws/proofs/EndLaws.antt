@@ -6,8 +6,8 @@ use Rattle.std.proofs.lemmas.Bool.{cases_lt}
 use Rattle.std.proofs.lemmas.Bool.Decides.{nat_tests}
 use Rattle.std.proofs.lemmas.List.Elements.{All-from_recursion}
 use Rattle.gw_streams.specs.declared.stream.Stream.{Stream}
-use Rattle.gw_meaning.specs.declared.item.End.{End}
-use Rattle.gw_meaning.specs.declared.item.End.TheVariants as ends
+use Rattle.gw_expr.specs.declared.halt.End.{End}
+use Rattle.gw_expr.specs.declared.halt.End.TheVariants as ends
 use Rattle.gw_meaning.specs.declared.moves.Move.{Move}
 use Rattle.gw_meaning.specs.declared.statement.Command.{Command}
 use Rattle.gw_meaning.specs.declared.statement.Command.TheVariants as commands

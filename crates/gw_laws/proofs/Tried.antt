@@ -13,7 +13,7 @@ use Rattle.gw_meaning.specs.declared.moves.Move.{Move}
 use Rattle.gw_meaning.specs.declared.moves.Move.TheVariants as moves
 use Rattle.gw_meaning.specs.declared.item.Item.{Item}
 use Rattle.gw_meaning.specs.declared.item.Item.TheVariants as items
-use Rattle.gw_meaning.specs.declared.item.End.{End}
+use Rattle.gw_expr.specs.declared.halt.End.{End}
 use Rattle.gw_meaning.specs.declared.statement.Block.{Block}
 use Rattle.gw_meaning.specs.declared.statement.Command.{Command}
 use Rattle.gw_meaning.specs.declared.statement.Command.TheVariants as commands

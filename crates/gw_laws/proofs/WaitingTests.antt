@@ -21,8 +21,8 @@ use Rattle.gw_expr.specs.Term.{Term}
 use Rattle.gw_expr.specs.Evaluation.{Question, NumberOf, AttributeOf, PartOf, VariableOf, FunctionOf, Reply, Evaluation, Yields, Stops, Wants}
 use Rattle.gw_expr.specs.Evaluation as operands
 use Rattle.gw_streams.specs.declared.stream.Stream.{Stream}
-use Rattle.gw_meaning.specs.declared.item.End.{End}
-use Rattle.gw_meaning.specs.declared.item.End.TheVariants as ends
+use Rattle.gw_expr.specs.declared.halt.End.{End}
+use Rattle.gw_expr.specs.declared.halt.End.TheVariants as ends
 use Rattle.gw_meaning.specs.declared.item.Item.{Item}
 use Rattle.gw_meaning.specs.declared.item.Asked.TheVariants as asking
 use Rattle.gw_meaning.specs.declared.item.Item.TheVariants as items

@@ -23,7 +23,7 @@ use Rattle.gw_meaning.specs.declared.moves.Fate.TheVariants as fates
 use Rattle.gw_meaning.specs.declared.moves.Move.{Move}
 use Rattle.gw_meaning.specs.declared.moves.Move.TheVariants as moves
 use Rattle.gw_meaning.specs.declared.asker.Asker.{Asker}
-use Rattle.gw_meaning.specs.declared.item.End.{End}
+use Rattle.gw_expr.specs.declared.halt.End.{End}
 use Rattle.gw_meaning.specs.declared.item.Item.{Item}
 use Rattle.gw_meaning.specs.declared.watched.EntityKind.{EntityKind}
 use Rattle.gw_meaning.specs.declared.watched.EntityKind.TheVariants as kinds

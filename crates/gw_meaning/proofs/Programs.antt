@@ -1,6 +1,6 @@
 -- What two programs of questions, one after the other, come to and ask; and so what a run of one step more does.
 use Rattle.std.proofs.Common.{◌≡◌, ℕ, suc, ◌∷◌, ◌++◌, Ok, Err, refl, ap}
-use Rattle.gw_meaning.specs.declared.item.End.{End}
+use Rattle.gw_expr.specs.declared.halt.End.{End}
 use Rattle.gw_meaning.specs.Listing.{Listing}
 use Rattle.gw_meaning.specs.Machine.{Machine}
 use Rattle.gw_meaning.specs.Questions.{ask, Prog, Gives, Ends, Asks, result_of, items_of, ◌>>=◌}

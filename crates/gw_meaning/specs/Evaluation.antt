@@ -23,8 +23,8 @@ use Rattle.gw_streams.specs.Draws.{next_of, start_of, stream_at, with_stream}
 use Rattle.gw_meaning.specs.declared.item.Item.{Item}
 use Rattle.gw_meaning.specs.declared.item.Asked.TheVariants as asking
 use Rattle.gw_meaning.specs.declared.item.Item.TheVariants as items
-use Rattle.gw_meaning.specs.declared.item.End.{End}
-use Rattle.gw_meaning.specs.declared.item.End.TheVariants as ends
+use Rattle.gw_expr.specs.declared.halt.End.{End}
+use Rattle.gw_expr.specs.declared.halt.End.TheVariants as ends
 use Rattle.gw_meaning.specs.declared.asker.Asker.{Asker}
 use Rattle.gw_entities.specs.Parameters.{parameter_at}
 use Rattle.gw_meaning.specs.declared.watched.EntityKind.{EntityKind}

@@ -1,8 +1,8 @@
 -- The point of START k: the first moment at which k STARTs are complete, or at which the run ends during the k-th; and
 -- how the run stands there. (Our own.)
 use Rattle.std.specs.Prelude.{◌≡◌, ℕ, ◌+◌, ◌<◌, ◌≤◌, Option, Some, None, Ok, Err}
-use Rattle.gw_meaning.specs.declared.item.End.{End}
-use Rattle.gw_meaning.specs.declared.item.End.TheVariants as ends
+use Rattle.gw_expr.specs.declared.halt.End.{End}
+use Rattle.gw_expr.specs.declared.halt.End.TheVariants as ends
 use Rattle.gw_meaning.specs.declared.item.Outcome.{Outcome}
 use Rattle.gw_meaning.specs.declared.item.Outcome.TheVariants as outcomes
 use Rattle.gw_meaning.specs.Listing.{Listing}

@@ -4,7 +4,7 @@ use Rattle.std.specs.List.{list_any}
 use Rattle.gw_meaning.specs.declared.item.Asked.{Asked}
 use Rattle.gw_meaning.specs.declared.item.Item.{Item}
 use Rattle.gw_meaning.specs.declared.item.Item.TheVariants as items
-use Rattle.gw_meaning.specs.declared.item.End.{End}
+use Rattle.gw_expr.specs.declared.halt.End.{End}
 use Rattle.gw_meaning.specs.contracts.item.AskedPartialEq.TheImpl as asking
 use Rattle.gw_meaning.specs.contracts.item.ItemPartialEq.TheImpl as comparison
 use Rattle.gw_meaning.specs.Listing.{Listing}

@@ -41,19 +41,6 @@ pub enum Item {
     Within(Time),
 }
 
-/// Why no step follows.
-#[derive(Clone, Copy, PartialEq, Eq)]
-pub enum End {
-    /// No command is left.
-    CommandsDone,
-    /// The least future time lies above the horizon.
-    Horizon,
-    /// There is no transaction to move.
-    Dry,
-    /// An attempt or a priming cannot be made.
-    Error(Stop),
-}
-
 /// How the run of a START stands at the point where its report is taken.
 #[derive(Clone, Copy)]
 pub enum Outcome {

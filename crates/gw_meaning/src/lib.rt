@@ -26,7 +26,7 @@ pub use asker::Asker;
 pub use auxiliary::{Auxiliary, Condition, Switching};
 pub use destination::Destination;
 pub use entity_change::{Deed, EntityChange, FacilityDeed, QueueDeed, StorageDeed};
-pub use item::{Asked, End, Item, Outcome};
+pub use item::{Asked, Item, Outcome};
 pub use moves::{Arrival, Change, Fate, Move};
 pub use statement::{Block, Body, Command, Definition, Numbered, Replication, Statement};
 pub use statement_id::StatementId;

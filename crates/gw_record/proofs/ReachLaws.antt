@@ -1,7 +1,7 @@
 -- The steps on the way to the end of a START.
 use Rattle.std.proofs.Common.{◌≡◌, ℕ, suc, ◌+◌, ◌-◌, ◌<◌, ◌≤◌, nat_eq, Bool, true, false, Some, None, Result, Ok, Err, refl, sym, ap, ◌∙◌, arith}
 use Rattle.std.proofs.lemmas.Bool.Decides.{nat_tests}
-use Rattle.gw_meaning.specs.declared.item.End.{End}
+use Rattle.gw_expr.specs.declared.halt.End.{End}
 use Rattle.gw_meaning.specs.Listing.{Listing}
 use Rattle.gw_meaning.specs.Machine.{Machine, raised}
 use Rattle.gw_meaning.specs.Step.{run}

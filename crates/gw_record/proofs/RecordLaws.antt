@@ -22,7 +22,7 @@ use Rattle.gw_meaning.specs.declared.moves.Fate.TheVariants as fates
 use Rattle.gw_meaning.specs.Changes.{deed_shares, moved, decided, fated, let_in, one_let_in, some_let_in, admitted, all_copied, one_copied, some_unlinked, one_unlinked, changed, with_active, picked}
 use Rattle.gw_meaning.specs.Step.{decide, step, step_items, run}
 use Rattle.gw_meaning.specs.Questions.{result_of}
-use Rattle.gw_meaning.specs.declared.item.End.{End}
+use Rattle.gw_expr.specs.declared.halt.End.{End}
 use Rattle.gw_scan.proofs.StepLaws.{step_goes, step_ends}
 use Rattle.std.specs.Prelude.{IfOk, IfSome, IfNone, Result, Err}
 use Rattle.gw_meaning.specs.Reads.{or_later, is_use, read_from, first_use}

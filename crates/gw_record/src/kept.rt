@@ -3,7 +3,7 @@ ghost use Rattle.std.specs.Prelude.{◌≤◌, length, IfSome, IfNone};
 ghost use Rattle.gw_record.specs.Parting.{AreInOrder, AreUntil, AreMoments, AreBefore};
 ghost use Rattle.gw_record.specs.Tape.{IsThere, IsStateIn};
 
-use gw_scan::State;
+use gw_state::State;
 
 /// A state of a run, and how many steps from zero lead to it.
 #[derive(Drop)]

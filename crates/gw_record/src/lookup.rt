@@ -12,7 +12,7 @@ use crate::recorded::Recorded;
 use gw_meaning::Item;
 use gw_names::Name;
 use gw_nums::Time;
-use gw_scan::State;
+use gw_state::State;
 
 impl Recorded {
     /// The state after so many steps, where it is kept: at the start, at the multiples of the spacing and the START

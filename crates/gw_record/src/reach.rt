@@ -5,7 +5,7 @@ ghost use Rattle.gw_record.specs.Extending.{tallied};
 ghost use Rattle.gw_record.specs.Reaching.{Reaches, AreWanted};
 
 use crate::recorded::Recorded;
-use gw_meaning::End;
+use gw_expr::End;
 use gw_model::Version;
 use gw_scan::{Tally, Turn, end_at};
 use std::alloc::{AllocError, Global};

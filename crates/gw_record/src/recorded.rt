@@ -6,7 +6,8 @@ ghost use Rattle.gw_record.specs.Tape.{blank, Records};
 
 use crate::kept::Kept;
 use gw_meaning::Item;
-use gw_scan::{Notes, State};
+use gw_scan::Notes;
+use gw_state::State;
 use std::alloc::Global;
 use std::marker::Model;
 

@@ -9,7 +9,7 @@ use crate::sheet::Sheet;
 use gw_meaning::{Body, Numbered, Watched};
 use gw_model::Version;
 use gw_names::Name;
-use gw_scan::State;
+use gw_state::State;
 use std::alloc::AllocError;
 
 /// Appends the blocks, in order.

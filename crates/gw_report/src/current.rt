@@ -7,7 +7,7 @@ use crate::section::put_section;
 use crate::sheet::Sheet;
 use gw_meaning::Transaction;
 use gw_model::Version;
-use gw_scan::State;
+use gw_state::State;
 use std::alloc::{AllocError, Global};
 
 /// Appends the current chain behind the active transaction.

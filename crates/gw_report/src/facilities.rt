@@ -11,7 +11,7 @@ use gw_chains::DelayChains;
 use gw_entities::Facility;
 use gw_meaning::{EntityKind, Watched};
 use gw_names::Key;
-use gw_scan::State;
+use gw_state::State;
 use std::alloc::{AllocError, Global};
 
 const FACILITY_COLUMNS: [Column; 10] = [

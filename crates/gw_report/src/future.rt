@@ -8,7 +8,7 @@ use crate::sheet::Sheet;
 use gw_chains::FutureChain;
 use gw_meaning::Event;
 use gw_model::Version;
-use gw_scan::State;
+use gw_state::State;
 use std::alloc::{AllocError, Global};
 
 /// Appends the future chain by time, and at equal times in the order of coming.

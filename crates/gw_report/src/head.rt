@@ -6,7 +6,7 @@ use crate::column::{Cell, Column, Side, put_row};
 use crate::section::put_table;
 use crate::sheet::Sheet;
 use gw_model::Version;
-use gw_scan::State;
+use gw_state::State;
 use std::alloc::AllocError;
 
 const HEAD_COLUMNS: [Column; 5] = [

@@ -9,7 +9,7 @@ use crate::sheet::Sheet;
 use gw_entities::Queue;
 use gw_meaning::{EntityKind, Watched};
 use gw_names::Key;
-use gw_scan::State;
+use gw_state::State;
 use std::alloc::{AllocError, Global};
 
 const QUEUE_COLUMNS: [Column; 9] = [

@@ -14,7 +14,7 @@ use crate::tables::put_tables;
 use crate::title::put_title;
 use gw_meaning::Outcome;
 use gw_model::Version;
-use gw_scan::State;
+use gw_state::State;
 use std::alloc::{AllocError, Global};
 
 // For how many bytes of text a report asks at once.

@@ -13,7 +13,7 @@ use gw_entities::Storage;
 use gw_meaning::{EntityKind, Watched};
 use gw_model::Version;
 use gw_names::Key;
-use gw_scan::State;
+use gw_state::State;
 use std::alloc::{AllocError, Global};
 
 const STORAGE_COLUMNS: [Column; 11] = [

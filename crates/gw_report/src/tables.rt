@@ -17,7 +17,7 @@ use gw_meaning::{Classes, Definition, EntityKind, Watched};
 use gw_model::Version;
 use gw_names::Key;
 use gw_nums::Val;
-use gw_scan::State;
+use gw_state::State;
 use std::alloc::{AllocError, Global};
 
 /// Appends the tables, in order of first touch, with the classes that the version gives them.

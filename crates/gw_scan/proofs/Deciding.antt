@@ -14,12 +14,12 @@ use Rattle.gw_meaning.specs.Evaluation.{Eval}
 use Rattle.gw_meaning.specs.Step.{try_prog, attempt_prog, pick_prog, clock_prog, least_time, move_prog}
 use Rattle.gw_frame.proofs.Known.{IsDecided, IsDecidedFate}
 use Rattle.gw_frame.proofs.Decided.{move_is_decided}
-use Rattle.gw_asking.specs.declared.halt.Why.{Why}
-use Rattle.gw_asking.specs.declared.halt.Why.TheVariants as whys
+use Rattle.gw_expr.specs.declared.halt.Halt.{Halt}
+use Rattle.gw_expr.specs.declared.halt.Halt.TheVariants as halts
 use Rattle.gw_asking.specs.Noted.{Noted, Tries}
 use Rattle.gw_asking.specs.Deciding.{Decides}
 use Rattle.gw_asking.proofs.Binding.{decides_asked}
-use Rattle.gw_scan.specs.Making.{IsAlone, IsMade}
+use Rattle.gw_state.specs.Making.{IsAlone, IsMade}
 use Rattle.gw_scan.specs.Stepping.{Acts}
 use Rattle.gw_scan.proofs.StepLaws.{decides_keeps}
 
@@ -52,7 +52,7 @@ module _ (t : Listing) (seed : ℕ) where
   is_made s m old new h = made t s m (move_is_decided t seed s old.streams (m, new.streams) h.0)
 
   -- a block is tried: the one that a transaction goes to, or the one after its own, for which it asked
-  pub decides_tried : (s : Machine) (x : Transaction) (to id : Option ℕ) (r : Result Move Why) (xs ys zs : Noted) →
+  pub decides_tried : (s : Machine) (x : Transaction) (to id : Option ℕ) (r : Result Move Halt) (xs ys zs : Noted) →
       Tries t x to id xs ys → Decides t seed (try_prog s x id) r ys zs → Decides t seed (attempt_prog s x to) r xs zs
   decides_tried s x (Some to) id r xs ys zs tried h =
       let here = subst (λ (n : Noted). Decides t seed (try_prog s x id) r n zs) tried.1 h in
@@ -62,13 +62,13 @@ module _ (t : Listing) (seed : ℕ) where
       (subst (λ (o : Option ℕ). Decides t seed (try_prog s x o) r ys zs) tried.0 h)
 
   -- where no move was decided, or memory is refused to make it, nothing changes
-  pub acts_left : (p : Eval Move) (r : Result (Unit {0}) Why) (halt : Why) (s : Machine) (xs ys : Noted) → IsErrAnd r (λ e. e ≡ halt) →
+  pub acts_left : (p : Eval Move) (r : Result (Unit {0}) Halt) (halt : Halt) (s : Machine) (xs ys : Noted) → IsErrAnd r (λ e. e ≡ halt) →
       Decides t seed p (Err halt) xs ys → Acts t seed p r s s xs ys
   acts_left p (Ok u) halt s xs ys exit h = absurd exit
-  acts_left p (Err e) halt s xs ys exit h = (subst (λ (f : Why). Decides t seed p (Err f) xs ys) (sym exit) h, refl)
+  acts_left p (Err e) halt s xs ys exit h = (subst (λ (f : Halt). Decides t seed p (Err f) xs ys) (sym exit) h, refl)
 
-  pub acts_refused : (p : Eval Move) (m : Move) (r : Result (Unit {0}) Why) (before after : Machine) (xs ys : Noted) →
-      IsErrAnd r (λ e. e ≡ whys.Memory) → after ≡ before → Decides t seed p (Ok m) xs ys → Acts t seed p r before after xs ys
+  pub acts_refused : (p : Eval Move) (m : Move) (r : Result (Unit {0}) Halt) (before after : Machine) (xs ys : Noted) →
+      IsErrAnd r (λ e. e ≡ halts.Memory) → after ≡ before → Decides t seed p (Ok m) xs ys → Acts t seed p r before after xs ys
   acts_refused p m r before after xs ys exit same h =
       subst (λ (s : Machine). Acts t seed p r before s xs ys) (sym same)
-      (acts_left p r whys.Memory before xs ys exit (decides_keeps t seed p (Ok m) xs ys h))
+      (acts_left p r halts.Memory before xs ys exit (decides_keeps t seed p (Ok m) xs ys h))

@@ -2,7 +2,7 @@
 use Rattle.std.specs.Prelude.{IfOk}
 use Rattle.std.proofs.Common.{◌≡◌, ℕ, List, None, Some, Result, Ok, Err, refl, ap, sym, subst, ◌∙◌, append-nil}
 use Rattle.gw_streams.specs.declared.stream.Stream.{Stream}
-use Rattle.gw_meaning.specs.declared.item.End.{End}
+use Rattle.gw_expr.specs.declared.halt.End.{End}
 use Rattle.gw_meaning.specs.declared.moves.Move.{Move}
 use Rattle.gw_meaning.specs.Listing.{Listing}
 use Rattle.gw_meaning.specs.Machine.{Machine}
@@ -10,8 +10,8 @@ use Rattle.gw_meaning.specs.Questions.{Prog, Gives, result_of, items_of}
 use Rattle.gw_meaning.specs.Changes.{decided}
 use Rattle.gw_meaning.specs.Evaluation.{Eval}
 use Rattle.gw_meaning.specs.Step.{decide, move_prog, step, step_prog, step_items, items_if_moved}
-use Rattle.gw_asking.specs.declared.halt.Why.{Why}
-use Rattle.gw_asking.specs.declared.halt.Why.TheVariants as whys
+use Rattle.gw_expr.specs.declared.halt.Halt.{Halt}
+use Rattle.gw_expr.specs.declared.halt.Halt.TheVariants as halts
 use Rattle.gw_asking.specs.Noted.{Noted, Reads, Keeps}
 use Rattle.gw_asking.specs.Deciding.{Decides}
 use Rattle.gw_scan.specs.Stepping.{EndsAs, Acts, Halts, Steps}
@@ -21,16 +21,16 @@ use Rattle.gw_meaning.proofs.Programs.{bind_gives, bind_ends}
 
 -- what comes next is the step of the definition, with these streams behind its draws, or its end; a refused growth leaves
 -- it open
-abbrev pub Foretells : Listing → ℕ → Machine → List Stream → Result Move Why → Type 0
+abbrev pub Foretells : Listing → ℕ → Machine → List Stream → Result Move Halt → Type 0
 Foretells t seed s streams (Ok m) = step t seed s ≡ Ok (decided s m streams)
-Foretells t seed s streams (Err (whys.End end)) = step t seed s ≡ Err end
-Foretells t seed s streams (Err whys.Memory) = Unit
+Foretells t seed s streams (Err (halts.End end)) = step t seed s ≡ Err end
+Foretells t seed s streams (Err halts.Memory) = Unit
 
 -- what was noted of earlier steps stays
-pub decides_keeps : {A : Type 0} (t : Listing) (seed : ℕ) (p : Eval A) (r : Result A Why) (old new : Noted) → Decides t seed p r old new → Keeps old new
+pub decides_keeps : {A : Type 0} (t : Listing) (seed : ℕ) (p : Eval A) (r : Result A Halt) (old new : Noted) → Decides t seed p r old new → Keeps old new
 decides_keeps t seed p (Ok a) old new h = reads_keep old new (items_of t seed (p old.streams)) h.1
-decides_keeps t seed p (Err (whys.End end)) old new h = reads_keep old new (items_of t seed (p old.streams)) h.1
-decides_keeps t seed p (Err whys.Memory) old new h = h
+decides_keeps t seed p (Err (halts.End end)) old new h = reads_keep old new (items_of t seed (p old.streams)) h.1
+decides_keeps t seed p (Err halts.Memory) old new h = h
 
 module _ (t : Listing) (seed : ℕ) (s : Machine) where
   abbrev made : Move × List Stream → Prog Machine
@@ -49,11 +49,11 @@ module _ (t : Listing) (seed : ℕ) (s : Machine) where
 
   -- what was decided, and what comes next
   pub foretold :
-      (r : Result Move Why) (old new : Noted) → old.streams ≡ s.streams → Decides t seed (move_prog s s.remaining) r old new →
+      (r : Result Move Halt) (old new : Noted) → old.streams ≡ s.streams → Decides t seed (move_prog s s.remaining) r old new →
       Foretells t seed s new.streams r
   foretold (Ok m) old new same h = let told = rw same at h.0 in step_goes (m, new.streams) told
-  foretold (Err (whys.End end)) old new same h = step_ends end (rw same at h.0)
-  foretold (Err whys.Memory) old new same h = tt
+  foretold (Err (halts.End end)) old new same h = step_ends end (rw same at h.0)
+  foretold (Err halts.Memory) old new same h = tt
 
   -- a step that was made leads where the step of the definition does
   pub acted :
@@ -72,15 +72,15 @@ module _ (t : Listing) (seed : ℕ) (s : Machine) where
 
   -- where none was made, it is told why, and nothing changed
   pub halted_told :
-      {E : Type 0} (halt : Why) (result : Result Turn E) (after : Machine) (old new : Noted) → old.streams ≡ s.streams →
+      {E : Type 0} (halt : Halt) (result : Result Turn E) (after : Machine) (old new : Noted) → old.streams ≡ s.streams →
       Acts t seed (move_prog s s.remaining) (Err halt) s after old new → Halts halt result →
       IfOk result (λ turn. Steps (step t seed s) turn s after)
-  halted_told (whys.End end) (Ok turn) after old new same h told =
+  halted_told (halts.End end) (Ok turn) after old new same h told =
       let F : Turn → Type 0 = λ u. Steps (step t seed s) u s after in
-      subst F (sym told) (foretold (Err (whys.End end)) old new same h.0, h.1)
-  halted_told (whys.End end) (Err error) after old new same h told = absurd told
-  halted_told whys.Memory (Ok turn) after old new same h told = absurd told
-  halted_told whys.Memory (Err error) after old new same h told = tt
+      subst F (sym told) (foretold (Err (halts.End end)) old new same h.0, h.1)
+  halted_told (halts.End end) (Err error) after old new same h told = absurd told
+  halted_told halts.Memory (Ok turn) after old new same h told = absurd told
+  halted_told halts.Memory (Err error) after old new same h told = tt
 
 pub goes_on : (r : Result Machine End) (s : Machine) → r ≡ Ok s → EndsAs r None
 goes_on (Ok u) s is = refl

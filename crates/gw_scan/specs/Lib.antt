@@ -5,13 +5,8 @@ pub use Rattle.gw_meaning.specs.Evaluation
 pub use Rattle.gw_meaning.specs.Changes
 pub use Rattle.gw_meaning.specs.Step
 pub use Rattle.gw_meaning.specs.Point
-pub use Rattle.gw_asking.specs.Halts
 pub use Rattle.gw_asking.specs.Noted
 pub use Rattle.gw_asking.specs.Deciding
-pub use Rattle.gw_parts.specs.Parts
-pub use Rattle.gw_parts.specs.Admitting
-pub mod Copies
-pub mod Making
-pub mod Seeing
+pub use Rattle.gw_state.specs.Parts
+pub use Rattle.gw_state.specs.Making
 pub mod Stepping
-pub mod Tracing

@@ -1,6 +1,6 @@
 -- What a step of the code came to, against the step of the definitions.
 use Rattle.std.specs.Prelude.{◌≡◌, ℕ, List, Option, Some, None, Result, Ok, Err}
-use Rattle.gw_meaning.specs.declared.item.End.{End}
+use Rattle.gw_expr.specs.declared.halt.End.{End}
 use Rattle.gw_meaning.specs.declared.item.Item.{Item}
 use Rattle.gw_asking.specs.Noted.{Noted, Reads, Forgets}
 use Rattle.gw_streams.specs.declared.stream.Stream.{Stream}
@@ -10,8 +10,8 @@ use Rattle.gw_meaning.specs.Machine.{Machine, raised}
 use Rattle.gw_meaning.specs.Changes.{decided}
 use Rattle.gw_meaning.specs.Evaluation.{Eval}
 use Rattle.gw_asking.specs.Deciding.{Decides}
-use Rattle.gw_asking.specs.declared.halt.Why.{Why}
-use Rattle.gw_asking.specs.declared.halt.Why.TheVariants as whys
+use Rattle.gw_expr.specs.declared.halt.Halt.{Halt}
+use Rattle.gw_expr.specs.declared.halt.Halt.TheVariants as halts
 use Rattle.gw_scan.specs.declared.steps.Turn.{Turn}
 use Rattle.gw_scan.specs.declared.steps.Turn.TheVariants as turns
 
@@ -32,15 +32,15 @@ Follows (turns.Ended end) items old new = Forgets old.step old.streams old new
 
 -- the move to which an evaluation comes is made, with the streams behind its draws; where it comes to none, nothing
 -- changes
-abbrev pub Acts : Listing → ℕ → Eval Move → Result (Unit {0}) Why → Machine → Machine → Noted → Noted → Type 0
+abbrev pub Acts : Listing → ℕ → Eval Move → Result (Unit {0}) Halt → Machine → Machine → Noted → Noted → Type 0
 Acts t seed p (Ok u) before after old new =
     (m : Move) × Decides t seed p (Ok m) old new × (after ≡ decided before m new.streams)
 Acts t seed p (Err halt) before after old new = Decides t seed p (Err halt) old new × (after ≡ before)
 
 -- no step was made: the run ends here, or out of memory
-abbrev pub Halts : {E : Type 0} → Why → Result Turn E → Type 0
-Halts (whys.End end) (Ok turn) = turn ≡ turns.Ended end
-Halts whys.Memory (Err error) = Unit {0}
+abbrev pub Halts : {E : Type 0} → Halt → Result Turn E → Type 0
+Halts (halts.End end) (Ok turn) = turn ≡ turns.Ended end
+Halts halts.Memory (Err error) = Unit {0}
 Halts halt result = ⊥
 
 -- the end of the definition, or none where it goes

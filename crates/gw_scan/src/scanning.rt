@@ -2,33 +2,32 @@
 ghost use Rattle.gw_meaning.specs.Step.{pick_prog, clock_prog, least_time};
 ghost use Rattle.gw_asking.specs.Deciding.{Decides};
 
-use crate::state::State;
-use gw_asking::{Case, Halt, Notes, ask_within};
+use gw_asking::{Case, Notes, ask_within};
+use gw_expr::{End, Halt};
 use gw_meaning::Move;
+use gw_state::State;
 
-impl State {
-    // The first of the current chain, or else the clock.
-    pub(crate) fn decide_scan(&self, case: Case, notes: &mut Notes) -> Result<Move, Halt>
-        ensures { Decides case.entry.version.now case.entry.seed (pick_prog self.now self.now.current)
-            result notes.old notes.new }
-    {
-        if self.current.is_empty() {
-            return self.decide_clock(case, notes);
-        }
-        Ok(Move::Pick)
+// The first of the current chain, or else the clock.
+pub fn decide_scan(state: &State, case: Case, notes: &mut Notes) -> Result<Move, Halt>
+    ensures { Decides case.entry.version.now case.entry.seed (pick_prog state.now state.now.current)
+        result notes.old notes.new }
+{
+    if state.current().is_empty() {
+        return decide_clock(state, case, notes);
     }
+    Ok(Move::Pick)
+}
 
-    // The clock moves on to the least time of the future chain, where that lies within the horizon.
-    fn decide_clock(&self, case: Case, notes: &mut Notes) -> Result<Move, Halt>
-        ensures { Decides case.entry.version.now case.entry.seed (clock_prog (least_time self.now.future))
-            result notes.old notes.new }
-    {
-        let Some(time) = self.future.least_time() else {
-            return Err(Halt::DRY);
-        };
-        match ask_within(case.version, notes, time)? {
-            Some(time) => Ok(Move::Clock { time }),
-            None => Err(Halt::HORIZON),
-        }
+// The clock moves on to the least time of the future chain, where that lies within the horizon.
+fn decide_clock(state: &State, case: Case, notes: &mut Notes) -> Result<Move, Halt>
+    ensures { Decides case.entry.version.now case.entry.seed (clock_prog (least_time state.now.future))
+        result notes.old notes.new }
+{
+    let Some(time) = state.future().least_time() else {
+        return Err(Halt::End(End::Dry));
+    };
+    match ask_within(case.version, notes, time)? {
+        Some(time) => Ok(Move::Clock { time }),
+        None => Err(Halt::End(End::Horizon)),
     }
 }

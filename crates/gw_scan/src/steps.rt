@@ -4,11 +4,12 @@ ghost use Rattle.gw_meaning.specs.Step.{move_prog, step, step_items};
 ghost use Rattle.gw_scan.specs.Stepping.{Acts, Steps, Counts, EndsAs, Follows, Halts};
 ghost use Rattle.gw_asking.specs.Noted.{Forgets};
 
-use crate::state::State;
+use crate::decide::decide;
 use crate::tally::Tally;
-use gw_asking::{Case, Halt, Notes, Why};
-use gw_meaning::End;
+use gw_asking::{Case, Notes};
+use gw_expr::{End, Halt};
 use gw_model::Version;
+use gw_state::State;
 use std::alloc::{AllocError, Global};
 
 /// What a step came to.
@@ -23,7 +24,6 @@ pub enum Turn {
 /// Makes the step of the version with this seed, notes the items that it reads and counts it; or says why
 /// none follows. An end, and a refused growth, changes nothing, and nothing stays noted of the step. Between
 /// steps the notes and the state have the same streams.
-#[inline(always)]
 pub fn step(
     alloc: Global,
     version: &Version,
@@ -45,7 +45,7 @@ pub fn step(
         version,
         seed,
     };
-    match state.act(case, notes) {
+    match act(state, case, notes) {
         Ok(()) => {
             tally.raise();
             Ok(Turn::Moved)
@@ -55,55 +55,41 @@ pub fn step(
 }
 
 // No step was made: what it read is forgotten.
-#[cold]
-#[inline(never)]
 fn halted(halt: Halt, state: &State, notes: &mut Notes) -> Result<Turn, AllocError>
     ensures told { Halts halt result }
     ensures notes { Forgets notes.old.step state.now.streams notes.old notes.new }
 {
     notes.forget(state.streams());
-    match halt.why() {
-        Why::End(end) => Ok(Turn::Ended(end)),
-        Why::Memory => Err(AllocError),
+    match halt {
+        Halt::End(end) => Ok(Turn::Ended(end)),
+        Halt::Memory => Err(AllocError),
     }
 }
 
-impl State {
-    // Makes the next move; or says why none follows, and then nothing changes.
-    fn act(&mut self, case: Case, notes: &mut Notes) -> Result<(), Halt>
-        ensures { Acts case.entry.version.now case.entry.seed (move_prog self.old self.old.remaining)
-            result self.old self.new notes.old notes.new }
-    {
-        let to = self.decide(case, notes)?;
-        self.make(case.alloc, to)?;
-        self.take_draws(notes);
-        Ok(())
-    }
+// Makes the next move; or says why none follows, and then nothing changes.
+fn act(state: &mut State, case: Case, notes: &mut Notes) -> Result<(), Halt>
+    ensures { Acts case.entry.version.now case.entry.seed (move_prog state.old state.old.remaining)
+        result state.old state.new notes.old notes.new }
+{
+    let to = decide(state, case, notes)?;
+    state.make(case.alloc, to, notes.streams())?;
+    Ok(())
+}
 
-    // The streams behind the draws that were noted become the state's.
-    fn take_draws(&mut self, notes: &Notes)
-        ensures { self.new ≡ record self.old { streams = notes.now.streams } }
-    {
-        self.streams = notes.streams();
-    }
-
-    // The end that the next step comes to, or `None` where it is made.
-    fn next_end(&self, case: Case) -> Result<Option<End>, AllocError>
-        ensures { IfOk result (EndsAs (step case.entry.version.now case.entry.seed self.now)) }
-    {
-        let mut notes = Notes::new(case.alloc, self.streams());
-        let decided = self.decide(case, &mut notes);
-        drop(notes);
-        match decided {
-            Ok(to) => {
-                drop(to);
-                Ok(None)
-            }
-            Err(halt) => match halt.why() {
-                Why::End(end) => Ok(Some(end)),
-                Why::Memory => Err(AllocError),
-            },
+// The end that the next step comes to, or `None` where it is made.
+fn next_end(state: &State, case: Case) -> Result<Option<End>, AllocError>
+    ensures { IfOk result (EndsAs (step case.entry.version.now case.entry.seed state.now)) }
+{
+    let mut notes = Notes::new(case.alloc, state.streams());
+    let decided = decide(state, case, &mut notes);
+    drop(notes);
+    match decided {
+        Ok(to) => {
+            drop(to);
+            Ok(None)
         }
+        Err(Halt::End(end)) => Ok(Some(end)),
+        Err(Halt::Memory) => Err(AllocError),
     }
 }
 
@@ -121,5 +107,5 @@ pub fn end_at(
         version,
         seed,
     };
-    state.next_end(case)
+    next_end(state, case)
 }

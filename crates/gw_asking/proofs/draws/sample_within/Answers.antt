@@ -1,8 +1,8 @@
 use Rattle.std.proofs.Common.{◌≡◌, ℕ, zero, suc, ℤ, false, ◌==◌, Ok, Err, refl, rules}
 use Rattle.gw_expr.specs.declared.stop.Stop.TheVariants.{Range}
-use Rattle.gw_meaning.specs.declared.item.End.TheVariants as ends
+use Rattle.gw_expr.specs.declared.halt.End.TheVariants as ends
 use Rattle.gw_meaning.specs.Evaluation.{Eval, gives, ends_with, draw, in_range, spread, sample_within, ◌~>◌}
-use Rattle.gw_asking.specs.declared.halt.Why.TheVariants as whys
+use Rattle.gw_expr.specs.declared.halt.Halt.TheVariants as halts
 use Rattle.gw_asking.proofs.Binding.{decides_whole, decides_comes}
 use Rattle.gw_asking.proofs.draws.sample_within.Goals as goal
 
@@ -28,6 +28,7 @@ returns-in-None c =
     let rest : ℕ → Eval ℤ = λ x. in_range (spread c.args.mean c.args.range x) in
     let some : (c.args.range == 0) ≡ false = search rules in
     let here : rest c.in_ok-number.number ≡ ends_with (ends.Error Range) = search rules in
-    decides_whole t seed (draw 1) rest _ c.in_ok-number.number (Err (whys.End (ends.Error Range))) c.args.notes.now c.draw.new.notes c.draw.new.notes
+    rw c.stop.ensures
+    (decides_whole t seed (draw 1) rest _ c.in_ok-number.number (Err (halts.End (ends.Error Range))) c.args.notes.now c.draw.new.notes c.draw.new.notes
     (drawn c.args.mean c.args.range some) c.in_ok-number.ensures
-    (decides_comes t seed (rest c.in_ok-number.number) (Err (whys.End (ends.Error Range))) c.draw.new.notes here)
+    (decides_comes t seed (rest c.in_ok-number.number) (Err (halts.End (ends.Error Range))) c.draw.new.notes here))

@@ -46,7 +46,8 @@ alone-returns g n c = c.of_atom.ensures
 
 pub of_variable-returns-then-depth-eq0 : goal.of_variable-returns-then-depth-eq0
 unfolding definitions_within
-of_variable-returns-then-depth-eq0 g n c = rw (c.in-Name.is, c.if-depth-eq0.true) (stops VariableDepth _)
+of_variable-returns-then-depth-eq0 g n c =
+    rw (c.in-Name.is, c.if-depth-eq0.true, c.stop-then-depth-eq0.ensures) (stops VariableDepth _)
 
 pub of_variable-returns-in_err-note_variable : goal.of_variable-returns-in_err-note_variable
 unfolding definitions_within
@@ -63,12 +64,13 @@ of_variable-returns-in-Some g n c =
 pub of_variable-returns-in-None : goal.of_variable-returns-in-None
 unfolding definitions_within
 of_variable-returns-in-None g n c =
-    rw (c.in-Name.is, one_less c.args.depth c.if-depth-eq0.false)
+    rw (c.in-Name.is, one_less c.args.depth c.if-depth-eq0.false, c.stop-in-None.ensures)
     (replied _ _ _ _ _ _ _ c.in-None.ensures (c.in_ok-note_variable.ensures _) (stops Range _))
 
 pub of_function-returns-then-depth-eq0 : goal.of_function-returns-then-depth-eq0
 unfolding definitions_within
-of_function-returns-then-depth-eq0 g n c = rw (c.in-Name.is, c.if-depth-eq0.true) (stops VariableDepth _)
+of_function-returns-then-depth-eq0 g n c =
+    rw (c.in-Name.is, c.if-depth-eq0.true, c.stop-then-depth-eq0.ensures) (stops VariableDepth _)
 
 pub of_function-returns-in_err-note_function : goal.of_function-returns-in_err-note_function
 unfolding definitions_within
@@ -85,7 +87,7 @@ of_function-returns-in-Some g n c =
 pub of_function-returns-in-None : goal.of_function-returns-in-None
 unfolding definitions_within
 of_function-returns-in-None g n c =
-    rw (c.in-Name.is, one_less c.args.depth c.if-depth-eq0.false)
+    rw (c.in-Name.is, one_less c.args.depth c.if-depth-eq0.false, c.stop-in-None.ensures)
     (replied _ _ _ _ _ _ _ c.in-None.ensures (c.in_ok-note_function.ensures _) (stops Range _))
 
 pub whole_of_function-returns-in_err-y : goal.whole_of_function-returns-in_err-y

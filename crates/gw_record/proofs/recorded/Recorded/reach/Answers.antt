@@ -7,7 +7,7 @@ use Rattle.gw_record.specs.Extending.{tallied}
 use Rattle.gw_record.specs.Reaching.{AreWanted}
 use Rattle.gw_record.proofs.ReachLaws.{wanted_more, tallied_more, goes_on, ends_on}
 use Rattle.gw_record.proofs.recorded.Recorded.reach.Goals.{in-Some, in-None}
-use Rattle.gw_meaning.specs.declared.item.End.{End}
+use Rattle.gw_expr.specs.declared.halt.End.{End}
 use Rattle.gw_record.proofs.recorded.Recorded.reach.Goals as goal
 
 pub loop-moment-preserved : goal.loop-moment-preserved

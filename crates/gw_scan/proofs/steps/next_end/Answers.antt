@@ -1,0 +1,25 @@
+use Rattle.std.proofs.Common.{◌≡◌, ◌∙◌, Ok, Err, ap, rules}
+use Rattle.gw_meaning.specs.Step.{step}
+use Rattle.gw_asking.specs.Noted.{Noted}
+use Rattle.gw_expr.specs.declared.halt.Halt.TheVariants as halts
+use Rattle.gw_scan.proofs.StepLaws.{foretold, goes_on, ends_as}
+use Rattle.gw_scan.proofs.steps.next_end.Goals as goal
+
+pub returns-in-Ok : goal.returns-in-Ok
+returns-in-Ok c =
+    let t = c.args.case.version.now in
+    let seed = c.args.case.seed in
+    let s = c.args.state.now in
+    let same = ap (λ (n : Noted). n.streams) c.new-notes.ensures ∙ c.streams.ensures in
+    goes_on (step t seed s) _ (foretold t seed s (Ok c.in-Ok.to) c.new-notes.result c.decide-decided.new.notes same c.in-Ok.ensures)
+
+pub returns-in-End : goal.returns-in-End
+returns-in-End c =
+    let t = c.args.case.version.now in
+    let seed = c.args.case.seed in
+    let s = c.args.state.now in
+    let same = ap (λ (n : Noted). n.streams) c.new-notes.ensures ∙ c.streams.ensures in
+    let end = c.in-End.end in
+    let halt : c.in-Err.halt ≡ halts.End end = search rules in
+    ends_as (step t seed s) end
+    (foretold t seed s (Err (halts.End end)) c.new-notes.result c.decide-decided.new.notes same (rw halt at c.in-Err.ensures))

@@ -1,0 +1,3 @@
+mod Crossing
+mod Kept
+mod Quiet

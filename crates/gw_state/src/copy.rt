@@ -1,0 +1,96 @@
+// A copy of a state, made of copies of its parts. The parts that own memory are copied in two groups: what is proved of
+// a function grows fast with the exits at which it lets go of copies.
+ghost use Rattle.std.specs.Prelude.{◌≡◌, IfOk};
+ghost use Rattle.gw_state.specs.Copies.{ChainsOf, KeptOf};
+
+use crate::entities::Entities;
+use crate::state::State;
+use gw_chains::{Counts, DelayChains, FutureChain, PriorityChain, UserChains};
+use gw_entities::Parameters;
+use gw_retry::Retry;
+use std::alloc::AllocError;
+
+// The chains of a state.
+#[derive(Drop)]
+pub struct Chains {
+    pub current: PriorityChain,
+    pub future: FutureChain,
+    pub delays: DelayChains,
+    pub retry: Retry,
+    pub linked: UserChains,
+}
+
+// What a state keeps of blocks, of entities and of transactions.
+#[derive(Drop)]
+pub struct Kept {
+    pub counts: Counts,
+    pub parameters: Parameters,
+    pub entities: Entities,
+}
+
+impl State {
+    /// Makes copies of it cheap: from now on they share what did not change of its chains, its entities and its
+    /// parameters. The state is the same behind it, also where memory is refused.
+    pub fn share(&mut self) -> Result<(), AllocError>
+        ensures { self.new ≡ self.old }
+    {
+        self.current.share()?;
+        self.delays.share()?;
+        self.retry.share()?;
+        self.linked.share()?;
+        self.future.share()?;
+        self.entities.share()?;
+        self.parameters.share()
+    }
+
+    /// An equal state.
+    pub fn copy(&self) -> Result<State, AllocError>
+        ensures { IfOk result (λ s. s ≡ self.now) }
+    {
+        let chains = self.copy_chains()?;
+        let kept = self.copy_kept()?;
+        Ok(State {
+            clocks: self.clocks,
+            progress: self.progress,
+            streams: self.streams,
+            next: self.next,
+            active: self.active.copy(),
+            current: chains.current,
+            future: chains.future,
+            delays: chains.delays,
+            retry: chains.retry,
+            linked: chains.linked,
+            counts: kept.counts,
+            entities: kept.entities,
+            parameters: kept.parameters,
+        })
+    }
+
+    fn copy_chains(&self) -> Result<Chains, AllocError>
+        ensures { IfOk result (ChainsOf self.now) }
+    {
+        let current = self.current.copy()?;
+        let future = self.future.copy()?;
+        let delays = self.delays.copy()?;
+        let retry = self.retry.copy()?;
+        Ok(Chains {
+            current,
+            future,
+            delays,
+            retry,
+            linked: self.linked.copy()?,
+        })
+    }
+
+    fn copy_kept(&self) -> Result<Kept, AllocError>
+        ensures { IfOk result (KeptOf self.now) }
+    {
+        let counts = self.counts.copy()?;
+        let parameters = self.parameters.copy()?;
+        Ok(Kept {
+            counts,
+            parameters,
+            entities: self.entities.copy()?,
+        })
+    }
+}

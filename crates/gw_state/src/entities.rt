@@ -1,0 +1,305 @@
+// The entities of a run.
+ghost use Rattle.std.specs.Prelude.{◌≡◌, IfOk, OnOk, OnErr};
+ghost use Rattle.gw_entities.specs.Comings.{came};
+ghost use Rattle.gw_meaning.specs.declared.entity_change.Deed.TheVariants as deeds;
+ghost use Rattle.gw_meaning.specs.Entities.{no_entities, facility_at, line_at, store_at, savevalue_at, switch_at, done, entities_anew, later};
+ghost use Rattle.gw_state.specs.Parts.{entities_of};
+
+use crate::deeds::{done_to_facility, done_to_queue, done_to_storage};
+use gw_entities::{ByKey, Comings, Facility, Queue, Storage, Tables};
+use gw_meaning::{Deed, QueueDeed};
+use gw_names::Key;
+use gw_nums::{Clock, Val};
+use std::alloc::{AllocError, Global};
+use std::marker::Model;
+
+/// The entities of a run, in order of first touch.
+#[derive(Drop)]
+pub struct Entities {
+    facilities: ByKey<Facility>,
+    queues: ByKey<Queue>,
+    storages: ByKey<Storage>,
+    savevalues: ByKey<Val>,
+    switches: ByKey<bool>,
+    tables: Tables,
+    comings: Comings,
+}
+
+impl Model for Entities {
+    ghost use Rattle.gw_state.specs.Parts.{Stock};
+
+    ghost Value = { Stock };
+
+    ghost view = { λ e. record {
+      facilities = e.facilities;
+      queues = e.queues;
+      storages = e.storages;
+      savevalues = e.savevalues;
+      switches = e.switches;
+      tables = e.tables;
+      comings = e.comings;
+    } };
+}
+
+impl Entities {
+    /// Nothing is touched yet.
+    pub fn new(alloc: Global) -> Entities
+        ensures { entities_of result ≡ no_entities }
+    {
+        Entities {
+            facilities: ByKey::new(alloc),
+            queues: ByKey::new(alloc),
+            storages: ByKey::new(alloc),
+            savevalues: ByKey::new(alloc),
+            switches: ByKey::new(alloc),
+            tables: Tables::new(alloc),
+            comings: Comings::new(alloc),
+        }
+    }
+
+    /// The facilities that were touched.
+    pub fn facilities(&self) -> &ByKey<Facility>
+        ensures { result.now ≡ self.now.facilities }
+    {
+        &self.facilities
+    }
+
+    /// The queues that were touched.
+    pub fn queues(&self) -> &ByKey<Queue>
+        ensures { result.now ≡ self.now.queues }
+    {
+        &self.queues
+    }
+
+    /// The storages that were touched.
+    pub fn storages(&self) -> &ByKey<Storage>
+        ensures { result.now ≡ self.now.storages }
+    {
+        &self.storages
+    }
+
+    /// The tables that were touched.
+    pub fn tables(&self) -> &Tables
+        ensures { result.now ≡ self.now.tables }
+    {
+        &self.tables
+    }
+
+    /// A facility, which is free where nothing touched it yet.
+    #[inline(always)]
+    pub fn facility(&self, key: &Key) -> Facility
+        ensures { result ≡ facility_at (entities_of self.now) key.now }
+    {
+        match self.facilities.get(key) {
+            Some(facility) => facility,
+            None => Facility::new(),
+        }
+    }
+
+    /// A queue, which is empty where nothing touched it yet.
+    #[inline(always)]
+    pub fn queue(&self, key: &Key) -> Queue
+        ensures { result ≡ line_at (entities_of self.now) key.now }
+    {
+        match self.queues.get(key) {
+            Some(queue) => queue,
+            None => Queue::new(),
+        }
+    }
+
+    /// A storage, of which no unit is in use where nothing touched it yet.
+    #[inline(always)]
+    pub fn storage(&self, key: &Key) -> Storage
+        ensures { result ≡ store_at (entities_of self.now) key.now }
+    {
+        match self.storages.get(key) {
+            Some(storage) => storage,
+            None => Storage::new(),
+        }
+    }
+
+    /// The value of a savevalue, where a block set it.
+    pub fn savevalue(&self, key: &Key) -> Option<Val>
+        ensures { result ≡ savevalue_at (entities_of self.now) key.now }
+    {
+        self.savevalues.get(key)
+    }
+
+    /// Whether a switch is set. One that nothing touched yet is not.
+    pub fn is_set(&self, key: &Key) -> bool
+        ensures { result ≡ switch_at (entities_of self.now) key.now }
+    {
+        match self.switches.get(key) {
+            Some(set) => set,
+            None => false,
+        }
+    }
+
+    /// Whether the transaction with a number came to a queue while the clock stands as it does.
+    #[inline(always)]
+    pub fn has_come(&self, key: &Key, number: u64) -> bool
+        ensures { result ≡ came self.now.comings.comings key.now number }
+    {
+        self.comings.has(key, number)
+    }
+
+    /// Makes of the entity with a key what a deed says, at a clock, where the transaction with a number enters the block.
+    /// Where memory is refused, nothing changes.
+    pub fn make(
+        &mut self,
+        key: &Key,
+        deed: &Deed,
+        clock: Clock,
+        number: u64,
+    ) -> Result<(), AllocError>
+        ensures ok { OnOk result (entities_of self.new ≡ done key.now deed.now clock number (entities_of self.old)) }
+        ensures err { OnErr result (entities_of self.new ≡ entities_of self.old) }
+    {
+        match deed {
+            Deed::Facility(deed) => {
+                let facility = done_to_facility(*deed, clock, number, self.facility(key));
+                self.facilities.put(key, facility)
+            }
+            Deed::Queue(deed) => self.make_of_queue(key, *deed, clock, number),
+            Deed::Storage(deed) => {
+                let storage = done_to_storage(deed, clock, self.storage(key));
+                self.storages.put(key, storage)
+            }
+            Deed::Savevalue { to } => self.savevalues.put(key, *to),
+            Deed::Switch { set } => self.switches.put(key, *set),
+            Deed::Table { value } => self.tables.add(key, *value),
+        }
+    }
+
+    // The same, of a queue: it is kept who came.
+    fn make_of_queue(
+        &mut self,
+        key: &Key,
+        deed: QueueDeed,
+        clock: Clock,
+        number: u64,
+    ) -> Result<(), AllocError>
+        ensures ok { OnOk result (entities_of self.new ≡
+            done key.now (deeds.Queue deed) clock number (entities_of self.old)) }
+        ensures err { OnErr result (entities_of self.new ≡ entities_of self.old) }
+    {
+        let queue = done_to_queue(deed, clock, self.queue(key));
+        match deed {
+            QueueDeed::Queue { .. } => {
+                let coming = self.comings.reserve(key)?;
+                self.queues.put(key, queue)?;
+                self.comings.add(number, coming);
+                Ok(())
+            }
+            QueueDeed::Depart { .. } => self.queues.put(key, queue),
+        }
+    }
+
+    /// Each facility, queue and storage is counted anew from a clock on, and each table loses its values. Where memory is
+    /// refused, nothing changes.
+    pub fn count_anew(&mut self, alloc: Global, clock: Clock) -> Result<(), AllocError>
+        ensures ok { OnOk result (entities_of self.new ≡ entities_anew clock (entities_of self.old)) }
+        ensures err { OnErr result (entities_of self.new ≡ entities_of self.old) }
+    {
+        let facilities = self.facilities.anew(alloc, clock)?;
+        let queues = self.queues.anew(alloc, clock)?;
+        let storages = self.storages.anew(alloc, clock)?;
+        let tables = self.tables.anew()?;
+        self.facilities = facilities;
+        self.queues = queues;
+        self.storages = storages;
+        self.tables = tables;
+        Ok(())
+    }
+
+    /// The clock goes on from one time to another. Where they differ, who came to which queue is forgotten.
+    pub fn go_on(&mut self, before: Clock, now: Clock)
+        ensures { entities_of self.new ≡ later before now (entities_of self.old) }
+    {
+        if self.comings.is_empty() {
+            return;
+        }
+        if before.time() != now.time() {
+            self.comings.clear();
+        }
+    }
+
+    /// Copies share the entities from now on.
+    pub fn share(&mut self) -> Result<(), AllocError>
+        ensures { entities_of self.new ≡ entities_of self.old }
+    {
+        self.facilities.share()?;
+        self.queues.share()?;
+        self.storages.share()?;
+        self.savevalues.share()?;
+        self.switches.share()?;
+        self.tables.share()?;
+        self.comings.share()
+    }
+
+    /// A copy. Its parts are copied in two groups: what is proved of a function grows fast with the exits at which it
+    /// lets go of copies.
+    pub fn copy(&self) -> Result<Entities, AllocError>
+        ensures { IfOk result (λ e. entities_of e ≡ entities_of self.now) }
+    {
+        let used = self.copy_used()?;
+        let set = self.copy_set()?;
+        Ok(Entities {
+            facilities: used.facilities,
+            queues: used.queues,
+            storages: used.storages,
+            savevalues: set.savevalues,
+            switches: set.switches,
+            tables: set.tables,
+            comings: set.comings,
+        })
+    }
+
+    fn copy_used(&self) -> Result<Used, AllocError>
+        ensures facilities { IfOk result (λ u. u.facilities ≡ self.now.facilities) }
+        ensures queues { IfOk result (λ u. u.queues ≡ self.now.queues) }
+        ensures storages { IfOk result (λ u. u.storages ≡ self.now.storages) }
+    {
+        let facilities = self.facilities.copy()?;
+        let queues = self.queues.copy()?;
+        Ok(Used {
+            facilities,
+            queues,
+            storages: self.storages.copy()?,
+        })
+    }
+
+    fn copy_set(&self) -> Result<Set, AllocError>
+        ensures savevalues { IfOk result (λ s. s.savevalues ≡ self.now.savevalues) }
+        ensures switches { IfOk result (λ s. s.switches ≡ self.now.switches) }
+        ensures tables { IfOk result (λ s. s.tables ≡ self.now.tables) }
+        ensures comings { IfOk result (λ s. s.comings.comings ≡ self.now.comings.comings) }
+    {
+        let savevalues = self.savevalues.copy()?;
+        let switches = self.switches.copy()?;
+        let tables = self.tables.copy()?;
+        Ok(Set {
+            savevalues,
+            switches,
+            tables,
+            comings: self.comings.copy()?,
+        })
+    }
+}
+
+// What is in use, or stood in.
+#[derive(Drop)]
+struct Used {
+    facilities: ByKey<Facility>,
+    queues: ByKey<Queue>,
+    storages: ByKey<Storage>,
+}
+
+// What blocks set and tabulated, and who came.
+#[derive(Drop)]
+struct Set {
+    savevalues: ByKey<Val>,
+    switches: ByKey<bool>,
+    tables: Tables,
+    comings: Comings,
+}

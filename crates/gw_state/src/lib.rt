@@ -1,0 +1,20 @@
+//! The state of a run: its parts, how it is read and copied, and the one place where it changes.
+//!
+//! A [`State`] changes by a move alone ([`State::make`]), which was decided before. All that grows is reserved first, so a
+//! refused growth changes nothing.
+#![tactic(auto)]
+
+mod active;
+mod clocks;
+mod copy;
+mod deeds;
+mod entities;
+mod letting_in;
+mod make;
+mod newcomers;
+mod progress;
+mod state;
+mod waking;
+
+pub use entities::Entities;
+pub use state::State;

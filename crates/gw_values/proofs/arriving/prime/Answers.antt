@@ -1,0 +1,10 @@
+use Rattle.gw_meaning.specs.declared.item.Item.TheVariants as items
+use Rattle.gw_meaning.specs.Step.{first_arrival}
+use Rattle.gw_asking.proofs.Binding.{decides_asked}
+use Rattle.gw_values.proofs.arriving.prime.Goals as goal
+
+pub returns : goal.returns
+returns c =
+    let case = c.args.case in
+    decides_asked case.version.now case.seed (items.Block c.args.id) (first_arrival c.args.state.now c.args.asker.now c.args.id) _ _ _ _ c.in_ok-block.ensures.ok
+    (rw (← c.in_ok-block.ensures.answer) c.first_arrival.ensures)

@@ -1,0 +1,182 @@
+// The next transaction of a GENERATE, and the first ones of all.
+ghost use Rattle.std.specs.Prelude.{◌≡◌, ◌-◌, ◌^◌, [], OnOk, min, option_copied, true, nat_le};
+ghost use Rattle.gw_meaning.specs.Machine.{live, count_at};
+ghost use Rattle.gw_meaning.specs.Step.{arrival_prog, arrival_in_time, arrival_at, first_of, first_arrival, prime_prog, arrivals_prog, with_arrival};
+ghost use Rattle.gw_asking.specs.Deciding.{Decides, Comes};
+
+use crate::operand::{value, value_or_zero};
+use crate::times::time;
+use gw_asking::{Case, Notes, ask_block};
+use gw_expr::{Expr, Halt, Row, Stop};
+use gw_meaning::operands::{A, B, C, D, E};
+use gw_meaning::{Arrival, Asker, Block, StatementId};
+use gw_nums::Val;
+use gw_state::State;
+use std::alloc::AllocError;
+
+/// How many transactions may live.
+pub const LIVE_LIMIT: usize = 100_000;
+
+// Whether no more transactions may live.
+fn is_full(state: &State) -> bool
+    ensures { result ≡ nat_le 100000 (live state.now) }
+{
+    state.living() >= LIVE_LIMIT
+}
+
+// The next transaction of the GENERATE at `id`: its limit, then its time, then its priority.
+pub fn arrival(
+    state: &State,
+    case: Case,
+    asker: &Asker,
+    notes: &mut Notes,
+    id: StatementId,
+    mean: Option<&Expr>,
+    range: Option<&Expr>,
+    limit: Option<&Expr>,
+    priority: Option<&Expr>,
+) -> Result<Option<Arrival>, Halt>
+    ensures { Decides case.entry.version.now case.entry.seed
+        (arrival_prog state.now asker.now id (count_at state.now.counts id).made (option_copied mean.entry)
+        (option_copied range.entry) (option_copied limit.entry) (option_copied priority.entry))
+        result notes.old notes.new }
+{
+    if let Some(limit) = limit {
+        let limit = value(state, case, asker, notes, limit)?;
+        if limit.is_negative() {
+            return Err(Halt::stop(Stop::BadCount));
+        }
+        if limit.magnitude() <= state.count(id).made {
+            return Ok(None);
+        }
+    }
+    arrival_in_time(state, case, asker, notes, id, mean, range, priority)
+}
+
+fn arrival_in_time(
+    state: &State,
+    case: Case,
+    asker: &Asker,
+    notes: &mut Notes,
+    id: StatementId,
+    mean: Option<&Expr>,
+    range: Option<&Expr>,
+    priority: Option<&Expr>,
+) -> Result<Option<Arrival>, Halt>
+    ensures { Decides case.entry.version.now case.entry.seed
+        (arrival_in_time state.now asker.now id (option_copied mean.entry) (option_copied range.entry)
+        (option_copied priority.entry)) result notes.old notes.new }
+{
+    let time = time(state, case, asker, notes, mean, range)?;
+    let priority = value_or_zero(state, case, asker, notes, priority)?;
+    arrival_at(state, id, time, priority)
+}
+
+fn arrival_at(
+    state: &State,
+    id: StatementId,
+    time: Val,
+    priority: Val,
+) -> Result<Option<Arrival>, Halt>
+    ensures { Comes (arrival_at state.now id time priority) result }
+{
+    if time.is_negative() {
+        return Err(Halt::stop(Stop::NegativeTime));
+    }
+    if is_full(state) {
+        return Err(Halt::stop(Stop::TooManyTransactions));
+    }
+    Ok(Some(Arrival {
+        id,
+        time: state.clock_now().after(time.magnitude()),
+        priority,
+    }))
+}
+
+// The first transactions of the GENERATEs at these ids, in order.
+pub fn arrivals(
+    state: &State,
+    case: Case,
+    asker: &Asker,
+    notes: &mut Notes,
+    ids: &[StatementId],
+) -> Result<Row<Arrival>, Halt>
+    ensures { Decides case.entry.version.now case.entry.seed (arrivals_prog state.now asker.now ids.now [])
+        result notes.old notes.new }
+{
+    let mut arrivals = Vec::new(case.alloc);
+    for id in ids {
+        let arrival = prime(state, case, asker, notes, *id)?;
+        put_if(&mut arrivals, arrival)?;
+    }
+    Ok(Row::from_vec(arrivals))
+}
+
+fn prime(
+    state: &State,
+    case: Case,
+    asker: &Asker,
+    notes: &mut Notes,
+    id: StatementId,
+) -> Result<Option<Arrival>, Halt>
+    ensures { Decides case.entry.version.now case.entry.seed
+        (prime_prog state.now asker.now id) result notes.old notes.new }
+{
+    let block = ask_block(case.version, notes, id)?;
+    first_arrival(state, case, asker, notes, id, block)
+}
+
+fn first_arrival(
+    state: &State,
+    case: Case,
+    asker: &Asker,
+    notes: &mut Notes,
+    id: StatementId,
+    block: Option<&Block>,
+) -> Result<Option<Arrival>, Halt>
+    ensures { Decides case.entry.version.now case.entry.seed
+        (first_arrival state.now asker.now id (option_copied block.entry)) result notes.old notes.new }
+{
+    match block {
+        Some(block) if block.is_generate() => first_of(state, case, asker, notes, id, block),
+        _ => Ok(None),
+    }
+}
+
+// The first transaction of a GENERATE comes after the offset, where there is one.
+fn first_of(
+    state: &State,
+    case: Case,
+    asker: &Asker,
+    notes: &mut Notes,
+    id: StatementId,
+    block: &Block,
+) -> Result<Option<Arrival>, Halt>
+    ensures { Decides case.entry.version.now case.entry.seed (first_of state.now asker.now id block.now true)
+        result notes.old notes.new }
+{
+    let (mean, range) = match block.operand(C) {
+        Some(offset) => (Some(offset), None),
+        None => (block.operand(A), block.operand(B)),
+    };
+    arrival(
+        state,
+        case,
+        asker,
+        notes,
+        id,
+        mean,
+        range,
+        block.operand(D),
+        block.operand(E),
+    )
+}
+
+fn put_if(arrivals: &mut Vec<Arrival>, arrival: Option<Arrival>) -> Result<(), AllocError>
+    ensures { OnOk result (arrivals.new.items ≡ with_arrival arrival arrivals.old.items) }
+{
+    if let Some(arrival) = arrival {
+        arrivals.push(arrival)?;
+    }
+    Ok(())
+}

@@ -1,0 +1,213 @@
+// What operands stand for: values, entities and units.
+ghost use Rattle.std.specs.Prelude.{◌≡◌, [], Some, option_copied};
+ghost use Rattle.gw_expr.specs.Evaluation.{value_of};
+ghost use Rattle.gw_meaning.specs.Evaluation.{value_prog, value_or_zero, value_there, numbered, entity_prog, units_prog, ◌~>◌, gives, traced, value_traced, entity_traced};
+ghost use Rattle.gw_asking.specs.Deciding.{Decides};
+ghost use Rattle.gw_values.specs.Tracing.{with_read};
+
+use crate::attributes::{key_named, key_numbered};
+use crate::seen::Seen;
+use crate::traced::Traced;
+use gw_asking::{Case, Notes, ask_number};
+use gw_expr::{Expr, Halt, Node, Stop, eval};
+use gw_meaning::{Asker, Watched};
+use gw_names::Key;
+use gw_nums::Val;
+use gw_state::State;
+
+// The value of an operand.
+pub fn value(
+    state: &State,
+    case: Case,
+    asker: &Asker,
+    notes: &mut Notes,
+    operand: &Expr,
+) -> Result<Val, Halt>
+    ensures { Decides case.entry.version.now case.entry.seed (value_prog state.now asker.now operand.now)
+        result notes.old notes.new }
+{
+    let mut seen = Seen {
+        state,
+        asker,
+        case,
+        notes,
+    };
+    eval(operand, case.version, &mut seen)
+}
+
+// The value of an operand that is there.
+pub fn value_there(
+    state: &State,
+    case: Case,
+    asker: &Asker,
+    notes: &mut Notes,
+    operand: Option<&Expr>,
+) -> Result<Val, Halt>
+    ensures { Decides case.entry.version.now case.entry.seed
+        (value_there state.now asker.now (option_copied operand.entry))
+        result notes.old notes.new }
+{
+    match operand {
+        Some(expr) => value(state, case, asker, notes, expr),
+        None => Err(Halt::stop(Stop::Range)),
+    }
+}
+
+// The value of an operand, or 0 where it is absent.
+pub fn value_or_zero(
+    state: &State,
+    case: Case,
+    asker: &Asker,
+    notes: &mut Notes,
+    operand: Option<&Expr>,
+) -> Result<Val, Halt>
+    ensures { Decides case.entry.version.now case.entry.seed
+        (value_or_zero state.now asker.now (option_copied operand.entry))
+        result notes.old notes.new }
+{
+    match operand {
+        Some(expr) => value(state, case, asker, notes, expr),
+        None => Ok(Val::ZERO),
+    }
+}
+
+// The entity that an operand names.
+pub fn key_of(
+    state: &State,
+    case: Case,
+    asker: &Asker,
+    notes: &mut Notes,
+    operand: Option<&Expr>,
+) -> Result<Key, Halt>
+    ensures { Decides case.entry.version.now case.entry.seed
+        (entity_prog state.now asker.now (option_copied operand.entry)) result notes.old notes.new }
+{
+    let Some(expr) = operand else {
+        return Err(Halt::stop(Stop::Range));
+    };
+    match expr.node() {
+        Node::Named(name) => {
+            let number = ask_number(case.version, notes, name.name())?;
+            key_named(name.name(), number)
+        }
+        _ => computed_entity(state, case, asker, notes, expr),
+    }
+}
+
+// The entity whose number is the value of an operand.
+fn computed_entity(
+    state: &State,
+    case: Case,
+    asker: &Asker,
+    notes: &mut Notes,
+    operand: &Expr,
+) -> Result<Key, Halt>
+    ensures { Decides case.entry.version.now case.entry.seed
+        (value_prog state.now asker.now operand.now ~> numbered) result notes.old notes.new }
+{
+    let number = value(state, case, asker, notes, operand)?;
+    key_numbered(number)
+}
+
+// How many units an operand says, and 1 where it is absent.
+pub fn units_of(
+    state: &State,
+    case: Case,
+    asker: &Asker,
+    notes: &mut Notes,
+    operand: Option<&Expr>,
+) -> Result<u32, Halt>
+    ensures { Decides case.entry.version.now case.entry.seed
+        (units_prog state.now asker.now (option_copied operand.entry)) result notes.old notes.new }
+{
+    let Some(expr) = operand else {
+        return Ok(1);
+    };
+    let units = value(state, case, asker, notes, expr)?;
+    if units.get() < 1 {
+        return Err(Halt::stop(Stop::BadCount));
+    }
+    Ok(units.magnitude() as u32)
+}
+
+// The value of an operand that is there; what it reads comes behind what was read before.
+pub fn value_traced(
+    state: &State,
+    case: Case,
+    asker: &Asker,
+    notes: &mut Notes,
+    read: &mut Vec<Watched>,
+    operand: Option<&Expr>,
+) -> Result<Val, Halt>
+    ensures { Decides case.entry.version.now case.entry.seed
+        (value_traced state.now asker.now read.old.items (option_copied operand.entry))
+        (with_read result read.new.items) notes.old notes.new }
+{
+    match operand {
+        Some(expr) => evaluation_traced(state, case, asker, notes, read, expr),
+        None => Err(Halt::stop(Stop::Range)),
+    }
+}
+
+fn evaluation_traced(
+    state: &State,
+    case: Case,
+    asker: &Asker,
+    notes: &mut Notes,
+    read: &mut Vec<Watched>,
+    operand: &Expr,
+) -> Result<Val, Halt>
+    ensures { Decides case.entry.version.now case.entry.seed
+        (traced state.now asker.now read.old.items (value_of operand.now))
+        (with_read result read.new.items) notes.old notes.new }
+{
+    let mut traced = Traced {
+        state,
+        asker,
+        case,
+        notes,
+        read,
+    };
+    eval(operand, case.version, &mut traced)
+}
+
+// The entity that an operand names, with what was read to find it.
+pub fn entity_traced(
+    state: &State,
+    case: Case,
+    asker: &Asker,
+    notes: &mut Notes,
+    read: &mut Vec<Watched>,
+    operand: &Expr,
+) -> Result<Key, Halt>
+    requires { read.old.items ≡ [] }
+    ensures { Decides case.entry.version.now case.entry.seed
+        (entity_traced state.now asker.now (Some operand.now)) (with_read result read.new.items)
+        notes.old notes.new }
+{
+    match operand.node() {
+        Node::Named(name) => {
+            let number = ask_number(case.version, notes, name.name())?;
+            key_named(name.name(), number)
+        }
+        _ => computed_traced(state, case, asker, notes, read, operand),
+    }
+}
+
+// The entity whose number is the value of an operand, with what that reads.
+fn computed_traced(
+    state: &State,
+    case: Case,
+    asker: &Asker,
+    notes: &mut Notes,
+    read: &mut Vec<Watched>,
+    operand: &Expr,
+) -> Result<Key, Halt>
+    ensures { Decides case.entry.version.now case.entry.seed
+        (traced state.now asker.now read.old.items (value_of operand.now) ~>
+        (λ r. numbered r.0 ~> (λ key. gives (key, r.1)))) (with_read result read.new.items)
+        notes.old notes.new }
+{
+    let number = evaluation_traced(state, case, asker, notes, read, operand)?;
+    key_numbered(number)
+}

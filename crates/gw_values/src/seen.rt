@@ -1,0 +1,50 @@
+// What an evaluation of operands asks of a state.
+ghost use Rattle.gw_meaning.specs.Evaluation.{attribute_prog};
+ghost use Rattle.gw_asking.specs.Deciding.{Decides};
+ghost use Rattle.gw_values.specs.Seeing.{IsStill, Replies};
+
+use crate::attributes::{attribute, random_part};
+use gw_asking::{Case, Notes, ask_number};
+use gw_expr::{Halt, Sna, Subject, World};
+use gw_meaning::{Asked, Asker};
+use gw_names::{Class, Name};
+use gw_nums::{Millionths, Val};
+use gw_state::State;
+
+// What an evaluation of operands asks: a state, for whoever asks, and the version and the seed of its run; and where it
+// notes what it asks for.
+#[derive(Drop)]
+pub struct Seen<'a> {
+    pub state: &'a State,
+    pub asker: &'a Asker,
+    pub case: Case<'a>,
+    pub notes: &'a mut Notes,
+}
+
+impl<'a> World for Seen<'a> {
+    ghost replies = { Replies };
+
+    fn number(&mut self, name: &Name) -> Result<Option<Val>, Halt> {
+        Ok(ask_number(self.case.version, self.notes, name)?)
+    }
+
+    fn attribute(&mut self, sna: Sna<'_>) -> Result<Val, Halt> {
+        attribute(
+            self.state, self.case, self.asker, self.notes, sna.class, sna.of,
+        )
+    }
+
+    fn part(&mut self, of: &Subject) -> Result<Millionths, Halt> {
+        random_part(self.case, self.notes, of)
+    }
+
+    fn note_variable(&mut self, name: &Name) -> Result<(), Halt> {
+        self.notes.note_asked(Asked::Variable, name)?;
+        Ok(())
+    }
+
+    fn note_function(&mut self, name: &Name) -> Result<(), Halt> {
+        self.notes.note_asked(Asked::Function, name)?;
+        Ok(())
+    }
+}

@@ -1,0 +1,179 @@
+// What an evaluation of operands asks of a state, where it is kept besides what it reads that a block may write.
+ghost use Rattle.std.specs.Prelude.{◌≡◌, OnOk};
+ghost use Rattle.std.specs.Option.{option_to_list};
+ghost use Rattle.gw_meaning.specs.Evaluation.{subject_prog, entity_watched, defined_watched, counts_watched, counts_of, watched_prog};
+ghost use Rattle.gw_meaning.specs.Watching.{is_watched, with_watched, with_all_watched};
+ghost use Rattle.gw_asking.specs.Deciding.{Decides};
+ghost use Rattle.gw_values.specs.Tracing.{IsTracedStill, TracedReplies, attribute_traced, listed, with_read};
+
+use crate::attributes::{attribute, random_part, subject};
+use gw_asking::{Case, Notes, ask_label, ask_number};
+use gw_expr::{Halt, Sna, Subject, World};
+use gw_meaning::{Asked, Asker, EntityKind, StatementId, Watched};
+use gw_names::{Class, Key, Name};
+use gw_nums::{Millionths, Val};
+use gw_state::State;
+use std::alloc::AllocError;
+
+// As `Seen`, with the list of what was read, each thing once.
+#[derive(Drop)]
+pub struct Traced<'a> {
+    pub state: &'a State,
+    pub asker: &'a Asker,
+    pub case: Case<'a>,
+    pub notes: &'a mut Notes,
+    pub read: &'a mut Vec<Watched>,
+}
+
+impl<'a> World for Traced<'a> {
+    ghost replies = { TracedReplies };
+
+    fn number(&mut self, name: &Name) -> Result<Option<Val>, Halt> {
+        Ok(ask_number(self.case.version, self.notes, name)?)
+    }
+
+    fn attribute(&mut self, sna: Sna<'_>) -> Result<Val, Halt> {
+        self.of_attribute(sna)
+    }
+
+    fn part(&mut self, of: &Subject) -> Result<Millionths, Halt> {
+        random_part(self.case, self.notes, of)
+    }
+
+    fn note_variable(&mut self, name: &Name) -> Result<(), Halt> {
+        self.notes.note_asked(Asked::Variable, name)?;
+        Ok(())
+    }
+
+    fn note_function(&mut self, name: &Name) -> Result<(), Halt> {
+        self.notes.note_asked(Asked::Function, name)?;
+        Ok(())
+    }
+}
+
+impl Traced<'_> {
+    // The value of an attribute, with what it reads.
+    fn of_attribute(&mut self, sna: Sna<'_>) -> Result<Val, Halt>
+        ensures decided { Decides self.old.case.version.now self.old.case.seed
+            (attribute_traced self.old.state.now self.old.asker.now self.old.read.now.items
+            sna.entry.class sna.entry.of.now) (with_read result self.new.read.now.items)
+            self.old.notes.now self.new.notes.now }
+        ensures same { IsTracedStill self.old self.new }
+    {
+        let thing = watched(self.case, self.notes, sna.class, sna.of)?;
+        let value = attribute(
+            self.state, self.case, self.asker, self.notes, sna.class, sna.of,
+        )?;
+        keep(self.read, thing)?;
+        Ok(value)
+    }
+}
+
+// What an attribute reads that a block may write.
+#[tactic(auto, unfolding(gw_meaning::specs::Evaluation::watched_prog))]
+fn watched(
+    case: Case,
+    notes: &mut Notes,
+    class: Class,
+    of: &Subject,
+) -> Result<Option<Watched>, Halt>
+    ensures { Decides case.entry.version.now case.entry.seed (watched_prog class of.now) (listed result)
+        notes.old notes.new }
+{
+    match class {
+        Class::F | Class::Fc => entity_watched(case, notes, EntityKind::Facility, of),
+        Class::Q | Class::Qc => entity_watched(case, notes, EntityKind::Queue, of),
+        Class::Qm | Class::Qz => entity_watched(case, notes, EntityKind::Queue, of),
+        Class::X => entity_watched(case, notes, EntityKind::Savevalue, of),
+        Class::Ls => entity_watched(case, notes, EntityKind::Switch, of),
+        Class::Ch | Class::Cc => entity_watched(case, notes, EntityKind::UserChain, of),
+        Class::S | Class::R => defined_watched(case, notes, EntityKind::Storage, of),
+        Class::Sc | Class::Sm => defined_watched(case, notes, EntityKind::Storage, of),
+        Class::Tc => defined_watched(case, notes, EntityKind::Table, of),
+        Class::N | Class::W => counts_watched(case, notes, of),
+        _ => Ok(None),
+    }
+}
+
+// The entity of a kind that an attribute is of.
+fn entity_watched(
+    case: Case,
+    notes: &mut Notes,
+    kind: EntityKind,
+    of: &Subject,
+) -> Result<Option<Watched>, Halt>
+    ensures { Decides case.entry.version.now case.entry.seed (entity_watched kind of.now) (listed result)
+        notes.old notes.new }
+{
+    let key = subject(case, notes, of)?;
+    Ok(Some(Watched::Entity(kind, key)))
+}
+
+// The storage or the table that an attribute is of.
+fn defined_watched(
+    case: Case,
+    notes: &mut Notes,
+    kind: EntityKind,
+    of: &Subject,
+) -> Result<Option<Watched>, Halt>
+    ensures { Decides case.entry.version.now case.entry.seed (defined_watched kind of.now) (listed result)
+        notes.old notes.new }
+{
+    match of {
+        Subject::Name(name) => {
+            let key = Key::Defined(name.clone()?);
+            Ok(Some(Watched::Entity(kind, key)))
+        }
+        _ => Ok(None),
+    }
+}
+
+// The counts of the block that an attribute is of.
+fn counts_watched(case: Case, notes: &mut Notes, of: &Subject) -> Result<Option<Watched>, Halt>
+    ensures { Decides case.entry.version.now case.entry.seed (counts_watched of.now) (listed result)
+        notes.old notes.new }
+{
+    match of {
+        Subject::Name(name) => {
+            let id = ask_label(case.version, notes, name)?;
+            Ok(counts_of(id))
+        }
+        _ => Ok(None),
+    }
+}
+
+fn counts_of(id: Option<StatementId>) -> Option<Watched>
+    ensures { option_to_list result ≡ counts_of id }
+{
+    match id {
+        Some(id) => Some(Watched::Counts(id)),
+        None => None,
+    }
+}
+
+// A thing comes behind the others that were read, unless it is there.
+fn keep(read: &mut Vec<Watched>, thing: Option<Watched>) -> Result<(), AllocError>
+    ensures { OnOk result (read.new.items ≡ with_all_watched read.old.items (option_to_list thing)) }
+{
+    match thing {
+        Some(thing) => keep_once(read, thing),
+        None => Ok(()),
+    }
+}
+
+pub fn keep_once(read: &mut Vec<Watched>, thing: Watched) -> Result<(), AllocError>
+    ensures { OnOk result (read.new.items ≡ with_watched read.old.items thing) }
+{
+    if is_in(read.as_slice(), &thing) {
+        return Ok(());
+    }
+    read.push(thing)?;
+    Ok(())
+}
+
+// Whether a thing stands in a list.
+fn is_in(list: &[Watched], thing: &Watched) -> bool
+    ensures { result ≡ is_watched list.now thing.now }
+{
+    list.iter().any(|other| *thing == *other)
+}

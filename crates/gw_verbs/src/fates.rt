@@ -1,0 +1,72 @@
+// ADVANCE, TERMINATE and BUFFER: what becomes of the transaction.
+ghost use Rattle.std.specs.Prelude.{◌≡◌, ◌≤◌, option_copied};
+ghost use Rattle.gw_meaning.specs.Step.{delay_of, advance_prog, terminate_prog, buffer_prog};
+ghost use Rattle.gw_asking.specs.Deciding.{Decides, Comes};
+
+use crate::entering::enter_for;
+use gw_asking::{Case, Notes};
+use gw_expr::{Expr, Halt, Stop};
+use gw_meaning::{Asker, Fate, Move, StatementId};
+use gw_state::State;
+use gw_values::{time, value_or_zero};
+
+// A transaction is held for a time.
+pub fn decide_advance(
+    state: &State,
+    case: Case,
+    asker: &Asker,
+    notes: &mut Notes,
+    id: StatementId,
+    mean: Option<&Expr>,
+    range: Option<&Expr>,
+) -> Result<Move, Halt>
+    ensures { Decides case.entry.version.now case.entry.seed
+        (advance_prog state.now asker.now id (option_copied mean.entry) (option_copied range.entry))
+        result notes.old notes.new }
+{
+    let time = time(state, case, asker, notes, mean, range)?;
+    if time.is_negative() {
+        return Err(Halt::stop(Stop::NegativeTime));
+    }
+    Ok(enter_for(id, delay(state, time.magnitude())))
+}
+
+// What becomes of a transaction that is held so many ticks.
+fn delay(state: &State, ticks: u64) -> Fate
+    requires { ticks ≤ 1000000000 }
+    ensures { result ≡ delay_of state.now ticks }
+{
+    if ticks == 0 {
+        return Fate::Active;
+    }
+    Fate::Delayed {
+        until: state.clock_now().after(ticks),
+    }
+}
+
+// A transaction is destroyed, and takes from the termination count.
+pub fn decide_terminate(
+    state: &State,
+    case: Case,
+    asker: &Asker,
+    notes: &mut Notes,
+    id: StatementId,
+    count: Option<&Expr>,
+) -> Result<Move, Halt>
+    ensures { Decides case.entry.version.now case.entry.seed
+        (terminate_prog state.now asker.now id (option_copied count.entry)) result notes.old notes.new }
+{
+    let count = value_or_zero(state, case, asker, notes, count)?;
+    if count.is_negative() {
+        return Err(Halt::stop(Stop::BadCount));
+    }
+    let count = count.magnitude();
+    Ok(enter_for(id, Fate::Destroyed { count }))
+}
+
+// A transaction lets its equals on the current chain move first.
+pub fn decide_buffer(id: StatementId) -> Result<Move, Halt>
+    ensures { Comes (buffer_prog id) result }
+{
+    Ok(enter_for(id, Fate::Current))
+}

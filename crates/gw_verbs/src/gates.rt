@@ -1,0 +1,231 @@
+// GATE: a transaction passes where a condition of an entity holds. Else it goes to a block, or waits for a change of the
+// entity where no label stands there.
+ghost use Rattle.std.specs.Prelude.{◌≡◌, [], List, Some, None, option_copied};
+ghost use Rattle.gw_meaning.specs.declared.watched.Watched.{Watched};
+ghost use Rattle.gw_meaning.specs.Entities.{store_at};
+ghost use Rattle.gw_meaning.specs.Step.{reads_capacity, kind_of_condition, is_open, gate_at, gate_storage, gate_other, gate_of, gate_prog};
+ghost use Rattle.gw_asking.specs.Deciding.{Decides, Comes};
+
+use crate::entering::pass;
+use crate::leading::lead_to;
+use gw_asking::{Case, Notes, ask_capacity};
+use gw_expr::{Expr, Halt, Node, Row, Stop};
+use gw_meaning::{Asker, Auxiliary, Condition, EntityKind, Move, StatementId, Watched};
+use gw_names::{Key, StorageName};
+use gw_state::State;
+use gw_values::{entity_traced, keep_once, key_of};
+
+// By the condition that the operator says.
+pub fn decide_gate(
+    state: &State,
+    case: Case,
+    asker: &Asker,
+    notes: &mut Notes,
+    id: StatementId,
+    operator: Auxiliary,
+    entity: Option<&Expr>,
+    label: Option<&Expr>,
+) -> Result<Move, Halt>
+    ensures { Decides case.entry.version.now case.entry.seed
+        (gate_prog state.now asker.now id operator (option_copied entity.entry) (option_copied label.entry))
+        result notes.old notes.new }
+{
+    match operator {
+        Auxiliary::Gate(condition) => {
+            gate_of(state, case, asker, notes, id, condition, entity, label)
+        }
+        _ => Err(Halt::stop(Stop::NoNextBlock)),
+    }
+}
+
+// The same, of the storage or the entity that an operand names.
+fn gate_of(
+    state: &State,
+    case: Case,
+    asker: &Asker,
+    notes: &mut Notes,
+    id: StatementId,
+    condition: Condition,
+    entity: Option<&Expr>,
+    label: Option<&Expr>,
+) -> Result<Move, Halt>
+    ensures { Decides case.entry.version.now case.entry.seed
+        (gate_of state.now asker.now id condition (option_copied entity.entry) (option_copied label.entry))
+        result notes.old notes.new }
+{
+    let Some(expr) = entity else {
+        return Err(Halt::stop(Stop::Range));
+    };
+    match expr.node() {
+        Node::Defined(name) => gate_storage(state, case, notes, id, condition, name, label),
+        _ => gate_other(state, case, asker, notes, id, condition, expr, label),
+    }
+}
+
+// The same, of a facility or a switch.
+fn gate_other(
+    state: &State,
+    case: Case,
+    asker: &Asker,
+    notes: &mut Notes,
+    id: StatementId,
+    condition: Condition,
+    entity: &Expr,
+    label: Option<&Expr>,
+) -> Result<Move, Halt>
+    ensures { Decides case.entry.version.now case.entry.seed
+        (gate_other state.now asker.now id condition (Some entity.now) (option_copied label.entry))
+        result notes.old notes.new }
+{
+    match label {
+        Some(label) => {
+            let key = key_of(state, case, asker, notes, Some(entity))?;
+            gate_or_lead(state, case, notes, id, condition, label, &key, 0)
+        }
+        None => {
+            let mut read = Vec::new(case.alloc);
+            let key = entity_traced(state, case, asker, notes, &mut read, entity)?;
+            gate_or_wait(state, id, condition, key, read, 0)
+        }
+    }
+}
+
+// The same, of a storage: its capacity is asked for only where the condition hangs on it.
+fn gate_storage(
+    state: &State,
+    case: Case,
+    notes: &mut Notes,
+    id: StatementId,
+    condition: Condition,
+    name: &StorageName,
+    label: Option<&Expr>,
+) -> Result<Move, Halt>
+    ensures { Decides case.entry.version.now case.entry.seed
+        (gate_storage state.now id condition (option_copied label.entry) name.now (reads_capacity condition))
+        result notes.old notes.new }
+{
+    if !reads_capacity(condition) {
+        return gate_at(state, case, notes, id, condition, label, name.key(), 0);
+    }
+    let capacity = ask_capacity(case.version, notes, name.name())?;
+    gate_at(
+        state,
+        case,
+        notes,
+        id,
+        condition,
+        label,
+        name.key(),
+        capacity,
+    )
+}
+
+// The same, of the storage with a key, which has so many units.
+fn gate_at(
+    state: &State,
+    case: Case,
+    notes: &mut Notes,
+    id: StatementId,
+    condition: Condition,
+    label: Option<&Expr>,
+    key: &Key,
+    capacity: u64,
+) -> Result<Move, Halt>
+    ensures { Decides case.entry.version.now case.entry.seed
+        (gate_at state.now id condition (option_copied label.entry) key.now [] capacity)
+        result notes.old notes.new }
+{
+    match label {
+        Some(label) => gate_or_lead(state, case, notes, id, condition, label, key, capacity),
+        None => {
+            let read = Vec::new(case.alloc);
+            gate_or_wait(state, id, condition, key.clone()?, read, capacity)
+        }
+    }
+}
+
+// On where the condition holds of the entity with a key, and else to the block with the label.
+fn gate_or_lead(
+    state: &State,
+    case: Case,
+    notes: &mut Notes,
+    id: StatementId,
+    condition: Condition,
+    label: &Expr,
+    key: &Key,
+    capacity: u64,
+) -> Result<Move, Halt>
+    ensures { (read : List Watched) → Decides case.entry.version.now case.entry.seed
+        (gate_at state.now id condition (Some label.now) key.now read capacity) result notes.old notes.new }
+{
+    if is_open(state, condition, key, capacity) {
+        return Ok(pass(id));
+    }
+    lead_to(case, notes, id, Some(label))
+}
+
+// On where the condition holds of the entity with a key; else the transaction waits for a change of it, and of what was
+// read to find it.
+fn gate_or_wait(
+    state: &State,
+    id: StatementId,
+    condition: Condition,
+    key: Key,
+    read: Vec<Watched>,
+    capacity: u64,
+) -> Result<Move, Halt>
+    ensures { Comes (gate_at state.now id condition None key read.items capacity) result }
+{
+    if is_open(state, condition, &key, capacity) {
+        return Ok(pass(id));
+    }
+    let mut read = read;
+    keep_once(&mut read, Watched::Entity(kind_of(condition), key))?;
+    let read = Row::from_vec(read);
+    Ok(Move::Watch { read })
+}
+
+// Whether a condition holds of the entity with a key.
+fn is_open(state: &State, condition: Condition, key: &Key, capacity: u64) -> bool
+    ensures { result ≡ is_open state.now condition key.now capacity }
+{
+    match condition {
+        Condition::InUse => state.entities().facility(key).owner().is_some(),
+        Condition::NotInUse => !state.entities().facility(key).owner().is_some(),
+        Condition::IsSet => state.entities().is_set(key),
+        Condition::IsReset => !state.entities().is_set(key),
+        Condition::Empty => units_in_use(state, key) == 0,
+        Condition::NotEmpty => !(units_in_use(state, key) == 0),
+        Condition::Full => capacity <= units_in_use(state, key),
+        Condition::NotFull => !(capacity <= units_in_use(state, key)),
+    }
+}
+
+// How many units of a storage are in use.
+fn units_in_use(state: &State, key: &Key) -> u64
+    ensures { result ≡ (store_at state.now.entities key.now).level.content }
+{
+    state.entities().storage(key).level().content()
+}
+
+// Whether a condition hangs on the capacity of its storage.
+fn reads_capacity(condition: Condition) -> bool
+    ensures { result ≡ reads_capacity condition }
+{
+    match condition {
+        Condition::Full | Condition::NotFull => true,
+        _ => false,
+    }
+}
+
+// The kind of entity that a condition is of.
+fn kind_of(condition: Condition) -> EntityKind
+    ensures { result ≡ kind_of_condition condition }
+{
+    match condition {
+        Condition::InUse | Condition::NotInUse => EntityKind::Facility,
+        Condition::IsSet | Condition::IsReset => EntityKind::Switch,
+        Condition::Empty | Condition::NotEmpty => EntityKind::Storage,
+        Condition::Full | Condition::NotFull => EntityKind::Storage,
+    }
+}

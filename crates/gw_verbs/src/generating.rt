@@ -1,0 +1,47 @@
+// GENERATE: which transaction it makes next.
+ghost use Rattle.std.specs.Prelude.{option_copied};
+ghost use Rattle.gw_meaning.specs.Step.{generate_prog};
+ghost use Rattle.gw_asking.specs.Deciding.{Decides};
+
+use gw_asking::{Case, Notes};
+use gw_expr::{Expr, Halt, Stop};
+use gw_meaning::{Change, Fate, Move, StatementId, Transaction};
+use gw_state::State;
+use gw_values::{arrival, for_none};
+
+// A transaction comes off its GENERATE, which makes the next one, if any.
+pub fn decide_generate(
+    state: &State,
+    case: Case,
+    notes: &mut Notes,
+    x: &Transaction,
+    id: StatementId,
+    mean: Option<&Expr>,
+    range: Option<&Expr>,
+    limit: Option<&Expr>,
+    priority: Option<&Expr>,
+) -> Result<Move, Halt>
+    ensures { Decides case.entry.version.now case.entry.seed
+        (generate_prog state.now x.now id (option_copied mean.entry) (option_copied range.entry)
+        (option_copied limit.entry) (option_copied priority.entry)) result notes.old notes.new }
+{
+    if x.current.number() != 0 {
+        return Err(Halt::stop(Stop::NoNextBlock));
+    }
+    let next = arrival(
+        state,
+        case,
+        &for_none(state.remaining()),
+        notes,
+        id,
+        mean,
+        range,
+        limit,
+        priority,
+    )?;
+    Ok(Move::Enter {
+        id,
+        change: Change::Generate { next },
+        fate: Fate::Active,
+    })
+}

@@ -1,0 +1,194 @@
+// TRANSFER and TEST: a label is asked for only where the transaction goes there.
+ghost use Rattle.std.specs.Prelude.{◌≡◌, Some, None, Ok, if◌then◌else◌, nat_lt, option_copied};
+ghost use Rattle.gw_meaning.specs.Evaluation.{millionths};
+ghost use Rattle.gw_meaning.specs.Step.{by_fraction, go_to, holds, lead_to, pass_or_wait, test_or_wait, test_prog, transfer_prog};
+ghost use Rattle.gw_asking.specs.Deciding.{Decides, Comes};
+
+use crate::entering::{enter_with, pass};
+use gw_asking::{Case, Notes, ask_label, draw, millionths};
+use gw_expr::{Expr, Halt, Node, Row, Stop};
+use gw_meaning::{Asker, Auxiliary, Move, StatementId, TransactionChange, Watched};
+use gw_nums::Val;
+use gw_state::State;
+use gw_values::{value_there, value_traced};
+
+// A transaction goes on where a relation of two values holds. Else it goes to a block, or waits for a change of what
+// they read where no label stands there.
+pub fn decide_test(
+    state: &State,
+    case: Case,
+    asker: &Asker,
+    notes: &mut Notes,
+    id: StatementId,
+    relation: Auxiliary,
+    first: Option<&Expr>,
+    second: Option<&Expr>,
+    label: Option<&Expr>,
+) -> Result<Move, Halt>
+    ensures { Decides case.entry.version.now case.entry.seed
+        (test_prog state.now asker.now id relation (option_copied first.entry) (option_copied second.entry)
+        (option_copied label.entry)) result notes.old notes.new }
+{
+    match label {
+        Some(label) => {
+            test_or_lead(
+                state, case, asker, notes, id, relation, first, second, label,
+            )
+        }
+        None => test_or_wait(state, case, asker, notes, id, relation, first, second),
+    }
+}
+
+fn test_or_lead(
+    state: &State,
+    case: Case,
+    asker: &Asker,
+    notes: &mut Notes,
+    id: StatementId,
+    relation: Auxiliary,
+    first: Option<&Expr>,
+    second: Option<&Expr>,
+    label: &Expr,
+) -> Result<Move, Halt>
+    ensures { Decides case.entry.version.now case.entry.seed
+        (test_prog state.now asker.now id relation (option_copied first.entry) (option_copied second.entry)
+        (Some label.now)) result notes.old notes.new }
+{
+    let first = value_there(state, case, asker, notes, first)?;
+    let second = value_there(state, case, asker, notes, second)?;
+    if holds(relation, first, second) {
+        return Ok(pass(id));
+    }
+    lead_to(case, notes, id, Some(label))
+}
+
+fn test_or_wait(
+    state: &State,
+    case: Case,
+    asker: &Asker,
+    notes: &mut Notes,
+    id: StatementId,
+    relation: Auxiliary,
+    first: Option<&Expr>,
+    second: Option<&Expr>,
+) -> Result<Move, Halt>
+    ensures { Decides case.entry.version.now case.entry.seed
+        (test_or_wait state.now asker.now id relation (option_copied first.entry) (option_copied second.entry))
+        result notes.old notes.new }
+{
+    let mut read = Vec::new(case.alloc);
+    let first = value_traced(state, case, asker, notes, &mut read, first)?;
+    let second = value_traced(state, case, asker, notes, &mut read, second)?;
+    Ok(pass_or_watch(id, holds(relation, first, second), read))
+}
+
+// The block is entered, or the transaction waits for a change of what was read.
+pub fn pass_or_watch(id: StatementId, passes: bool, read: Vec<Watched>) -> Move
+    ensures { Comes (pass_or_wait id None read.items passes) (Ok result) }
+{
+    if passes {
+        return pass(id);
+    }
+    let read = Row::from_vec(read);
+    Move::Watch { read }
+}
+
+// A transaction is sent to a block, or goes on to the next one.
+pub fn decide_transfer(
+    case: Case,
+    notes: &mut Notes,
+    id: StatementId,
+    fraction: Option<&Expr>,
+    near: Option<&Expr>,
+    far: Option<&Expr>,
+) -> Result<Move, Halt>
+    ensures { Decides case.entry.version.now case.entry.seed
+        (transfer_prog id (option_copied fraction.entry) (option_copied near.entry) (option_copied far.entry))
+        result notes.old notes.new }
+{
+    let Some(expr) = fraction else {
+        return lead_to(case, notes, id, near);
+    };
+    match expr.node() {
+        Node::Fraction(part) => by_fraction(case, notes, id, *part, near, far),
+        _ => lead_to(case, notes, id, near),
+    }
+}
+
+fn by_fraction(
+    case: Case,
+    notes: &mut Notes,
+    id: StatementId,
+    part: u32,
+    near: Option<&Expr>,
+    far: Option<&Expr>,
+) -> Result<Move, Halt>
+    ensures { Decides case.entry.version.now case.entry.seed
+        (by_fraction id part (option_copied near.entry) (option_copied far.entry)) result notes.old notes.new }
+{
+    let number = draw(case, notes, 1)?;
+    lead_to(case, notes, id, chosen(number, part, near, far))
+}
+
+// The far operand where the number that was drawn is below the fraction, else the near one.
+fn chosen<'a>(
+    number: u32,
+    part: u32,
+    near: Option<&'a Expr>,
+    far: Option<&'a Expr>,
+) -> Option<&'a Expr>
+    ensures { option_copied result ≡
+        (if nat_lt (millionths number) part then option_copied far.entry else option_copied near.entry) }
+{
+    if millionths(number) < u64::from(part) {
+        far
+    } else {
+        near
+    }
+}
+
+// Whether the relation of one value to another holds.
+fn holds(relation: Auxiliary, first: Val, second: Val) -> bool
+    ensures { result ≡ holds relation first second }
+{
+    match relation {
+        Auxiliary::Equal => first == second,
+        Auxiliary::NotEqual => first != second,
+        Auxiliary::Greater => first > second,
+        Auxiliary::GreaterOrEqual => first >= second,
+        Auxiliary::Less => first < second,
+        Auxiliary::LessOrEqual => first <= second,
+        _ => false,
+    }
+}
+
+// To the block with a label, or to the next block where there is none.
+pub fn lead_to(
+    case: Case,
+    notes: &mut Notes,
+    id: StatementId,
+    label: Option<&Expr>,
+) -> Result<Move, Halt>
+    ensures { Decides case.entry.version.now case.entry.seed (lead_to id (option_copied label.entry))
+        result notes.old notes.new }
+{
+    let Some(expr) = label else {
+        return Ok(pass(id));
+    };
+    match expr.node() {
+        Node::Label(name) => {
+            let to = ask_label(case.version, notes, name)?;
+            go_to(id, to)
+        }
+        _ => Ok(pass(id)),
+    }
+}
+
+fn go_to(id: StatementId, to: Option<StatementId>) -> Result<Move, Halt>
+    ensures { Comes (go_to id to) result }
+{
+    match to {
+        Some(to) => Ok(enter_with(id, TransactionChange::Transfer { to })),
+        None => Err(Halt::stop(Stop::NoNextBlock)),
+    }
+}

@@ -1,0 +1,129 @@
+// LINK and UNLINK: a transaction goes to a user chain, and others leave one.
+ghost use Rattle.std.specs.Prelude.{◌≡◌, Ok, option_copied};
+ghost use Rattle.gw_meaning.specs.Step.{link_prog, unlink_prog, leaving_prog, unlink_count, unlink_to, unlink_some};
+ghost use Rattle.gw_meaning.specs.declared.moves.Change.TheVariants as changes;
+ghost use Rattle.gw_meaning.specs.declared.moves.Fate.TheVariants as fates;
+ghost use Rattle.gw_meaning.specs.declared.moves.Move.TheVariants as moves;
+ghost use Rattle.gw_asking.specs.Deciding.{Decides, Comes};
+
+use crate::entering::{enter_bringing, enter_for};
+use gw_asking::{Case, Notes, ask_label};
+use gw_expr::{Discipline, Expr, Halt, Node, Stop};
+use gw_meaning::{Asker, Change, Destination, Fate, Move, StatementId};
+use gw_names::Key;
+use gw_state::State;
+use gw_values::{key_of, units_of};
+
+// A transaction goes to the back or to the front of a user chain.
+pub fn decide_link(
+    state: &State,
+    case: Case,
+    asker: &Asker,
+    notes: &mut Notes,
+    id: StatementId,
+    entity: Option<&Expr>,
+    order: Option<&Expr>,
+) -> Result<Move, Halt>
+    ensures { Decides case.entry.version.now case.entry.seed
+        (link_prog state.now asker.now id (option_copied entity.entry) (option_copied order.entry))
+        result notes.old notes.new }
+{
+    let Some(expr) = order else {
+        return Err(Halt::stop(Stop::NoNextBlock));
+    };
+    match expr.node() {
+        Node::Order(discipline) => {
+            let key = key_of(state, case, asker, notes, entity)?;
+            Ok(link_to(id, key, *discipline))
+        }
+        _ => Err(Halt::stop(Stop::NoNextBlock)),
+    }
+}
+
+// So many from the front of a user chain go to the block with the label.
+pub fn decide_unlink(
+    state: &State,
+    case: Case,
+    asker: &Asker,
+    notes: &mut Notes,
+    id: StatementId,
+    entity: Option<&Expr>,
+    label: Option<&Expr>,
+    count: Option<&Expr>,
+) -> Result<Move, Halt>
+    ensures { Decides case.entry.version.now case.entry.seed
+        (unlink_prog state.now asker.now id (option_copied entity.entry) (option_copied label.entry)
+        (option_copied count.entry)) result notes.old notes.new }
+{
+    let key = key_of(state, case, asker, notes, entity)?;
+    let there = state.linked().len(&key) as u64;
+    let count = leaving(state, case, asker, notes, count, there)?;
+    unlink_count(case, notes, id, key, label, count)
+}
+
+// How many leave of so many: all, or no more than the count says.
+fn leaving(
+    state: &State,
+    case: Case,
+    asker: &Asker,
+    notes: &mut Notes,
+    count: Option<&Expr>,
+    there: u64,
+) -> Result<u64, Halt>
+    ensures { Decides case.entry.version.now case.entry.seed
+        (leaving_prog state.now asker.now (option_copied count.entry) there) result notes.old notes.new }
+{
+    let Some(expr) = count else {
+        return Ok(there);
+    };
+    let units = units_of(state, case, asker, notes, Some(expr))?;
+    Ok(u64::from(units).min(there))
+}
+
+fn link_to(id: StatementId, key: Key, discipline: Discipline) -> Move
+    ensures { result ≡ moves.Enter id changes.Nothing (fates.Linked key discipline) }
+{
+    enter_for(id, Fate::Linked { key, discipline })
+}
+
+// A label is looked up only where somebody goes there.
+fn unlink_count(
+    case: Case,
+    notes: &mut Notes,
+    id: StatementId,
+    key: Key,
+    label: Option<&Expr>,
+    count: u64,
+) -> Result<Move, Halt>
+    ensures { Decides case.entry.version.now case.entry.seed
+        (unlink_count id key (option_copied label.entry) count) result notes.old notes.new }
+{
+    if count == 0 {
+        return Ok(unlink_some(id, key, 0, Destination::none()));
+    }
+    let Some(expr) = label else {
+        return Err(Halt::stop(Stop::NoNextBlock));
+    };
+    match expr.node() {
+        Node::Label(name) => {
+            let to = ask_label(case.version, notes, name)?;
+            unlink_to(id, key, count, to)
+        }
+        _ => Err(Halt::stop(Stop::NoNextBlock)),
+    }
+}
+
+fn unlink_to(id: StatementId, key: Key, count: u64, to: Option<StatementId>) -> Result<Move, Halt>
+    ensures { Comes (unlink_to id key count to) result }
+{
+    match to {
+        Some(to) => Ok(unlink_some(id, key, count, Destination::to(to))),
+        None => Err(Halt::stop(Stop::NoNextBlock)),
+    }
+}
+
+fn unlink_some(id: StatementId, key: Key, count: u64, to: Destination) -> Move
+    ensures { Comes (unlink_some id key count to) (Ok result) }
+{
+    enter_bringing(id, Change::Unlink { key, count, to })
+}

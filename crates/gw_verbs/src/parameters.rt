@@ -1,0 +1,168 @@
+// ASSIGN and LOOP: what a block sets of a parameter; and the value of a parameter.
+ghost use Rattle.std.specs.Prelude.{◌≡◌, pos, option_copied};
+ghost use Rattle.gw_meaning.specs.Evaluation.{arithmetic, value_held, parameter_value};
+ghost use Rattle.gw_meaning.specs.Step.{by_sign, or_zero, assign_with, assign_prog, left_of, loop_back, loop_to, loop_with, loop_prog};
+ghost use Rattle.gw_asking.specs.Deciding.{Decides, Comes};
+
+use crate::entering::enter_with;
+use gw_asking::{Case, Notes, ask_label};
+use gw_expr::{Expr, Halt, Node, Operator, Stop};
+use gw_meaning::{Asker, Auxiliary, Move, StatementId, TransactionChange};
+use gw_names::Key;
+use gw_nums::{ArithmeticFault, Val};
+use gw_state::State;
+use gw_values::{key_of, value_there};
+
+// A parameter is set, or something is added to it or taken from it.
+pub fn decide_assign(
+    state: &State,
+    case: Case,
+    asker: &Asker,
+    notes: &mut Notes,
+    id: StatementId,
+    sign: Auxiliary,
+    parameter: Option<&Expr>,
+    value: Option<&Expr>,
+) -> Result<Move, Halt>
+    ensures { Decides case.entry.version.now case.entry.seed
+        (assign_prog state.now asker.now id sign (option_copied parameter.entry) (option_copied value.entry))
+        result notes.old notes.new }
+{
+    let key = key_of(state, case, asker, notes, parameter)?;
+    let value = value_there(state, case, asker, notes, value)?;
+    let was = state.parameters().get(asker.number, &key);
+    assign_with(id, sign, key, was, value)
+}
+
+// A parameter loses 1, and the transaction goes to a block while it is not 0.
+pub fn decide_loop(
+    state: &State,
+    case: Case,
+    asker: &Asker,
+    notes: &mut Notes,
+    id: StatementId,
+    parameter: Option<&Expr>,
+    label: Option<&Expr>,
+) -> Result<Move, Halt>
+    ensures { Decides case.entry.version.now case.entry.seed
+        (loop_prog state.now asker.now id (option_copied parameter.entry) (option_copied label.entry))
+        result notes.old notes.new }
+{
+    let key = key_of(state, case, asker, notes, parameter)?;
+    let left = left_of(state.parameters().get(asker.number, &key))?;
+    loop_with(case, notes, id, key, left, label)
+}
+
+fn assign_with(
+    id: StatementId,
+    sign: Auxiliary,
+    key: Key,
+    was: Option<Val>,
+    value: Val,
+) -> Result<Move, Halt>
+    ensures { Comes (assign_with id sign key was value) result }
+{
+    let to = arithmetic(by_sign(sign, was, value))?;
+    Ok(enter_with(id, TransactionChange::Assign { key, to }))
+}
+
+// What a value makes of a parameter or a savevalue, by the sign before it.
+pub fn by_sign(sign: Auxiliary, was: Option<Val>, value: Val) -> Result<Val, ArithmeticFault>
+    ensures { result ≡ by_sign sign was value }
+{
+    match sign {
+        Auxiliary::Plus => Operator::Plus.apply(or_zero(was), value),
+        Auxiliary::Minus => Operator::Minus.apply(or_zero(was), value),
+        _ => Ok(value),
+    }
+}
+
+fn or_zero(value: Option<Val>) -> Val
+    ensures { result ≡ or_zero value }
+{
+    match value {
+        Some(value) => value,
+        None => Val::ZERO,
+    }
+}
+
+// What a LOOP leaves of a parameter.
+fn left_of(was: Option<Val>) -> Result<Val, Halt>
+    ensures { Comes (left_of was) result }
+{
+    match was {
+        Some(value) => arithmetic(Operator::Minus.apply(value, one())),
+        None => Err(Halt::stop(Stop::NoParameter)),
+    }
+}
+
+fn one() -> Val
+    ensures { result ≡ pos 1 }
+{
+    match Val::new(1) {
+        Some(one) => one,
+        None => unreachable!(),
+    }
+}
+
+// At 0 the transaction goes on to the next block, else back to the one with the label.
+fn loop_with(
+    case: Case,
+    notes: &mut Notes,
+    id: StatementId,
+    key: Key,
+    left: Val,
+    label: Option<&Expr>,
+) -> Result<Move, Halt>
+    ensures { Decides case.entry.version.now case.entry.seed
+        (loop_with id key left (option_copied label.entry)) result notes.old notes.new }
+{
+    if left.magnitude() == 0 {
+        let change = TransactionChange::Assign { key, to: left };
+        return Ok(enter_with(id, change));
+    }
+    loop_to(case, notes, id, key, left, label)
+}
+
+fn loop_to(
+    case: Case,
+    notes: &mut Notes,
+    id: StatementId,
+    key: Key,
+    left: Val,
+    label: Option<&Expr>,
+) -> Result<Move, Halt>
+    ensures { Decides case.entry.version.now case.entry.seed
+        (loop_to id key left (option_copied label.entry)) result notes.old notes.new }
+{
+    let Some(expr) = label else {
+        return Err(Halt::stop(Stop::NoNextBlock));
+    };
+    match expr.node() {
+        Node::Label(name) => {
+            let to = ask_label(case.version, notes, name)?;
+            loop_back(id, key, left, to)
+        }
+        _ => Err(Halt::stop(Stop::NoNextBlock)),
+    }
+}
+
+fn loop_back(id: StatementId, key: Key, left: Val, to: Option<StatementId>) -> Result<Move, Halt>
+    ensures { Comes (loop_back id key left to) result }
+{
+    match to {
+        Some(to) => Ok(enter_with(id, TransactionChange::Loop { key, left, to })),
+        None => Err(Halt::stop(Stop::NoNextBlock)),
+    }
+}
+
+// What an operator comes to.
+pub fn arithmetic(found: Result<Val, ArithmeticFault>) -> Result<Val, Halt>
+    ensures { Comes (arithmetic found) result }
+{
+    match found {
+        Ok(value) => Ok(value),
+        Err(ArithmeticFault::Range) => Err(Halt::stop(Stop::Range)),
+        Err(ArithmeticFault::ZeroDivisor) => Err(Halt::stop(Stop::ZeroDivisor)),
+    }
+}

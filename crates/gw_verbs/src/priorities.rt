@@ -1,0 +1,34 @@
+// MARK and PRIORITY: the mark time and the priority that a block gives to its transaction.
+ghost use Rattle.std.specs.Prelude.{option_copied};
+ghost use Rattle.gw_meaning.specs.Step.{mark_prog, priority_prog};
+ghost use Rattle.gw_asking.specs.Deciding.{Decides, Comes};
+
+use crate::entering::enter_with;
+use gw_asking::{Case, Notes};
+use gw_expr::{Expr, Halt};
+use gw_meaning::{Asker, Move, StatementId, TransactionChange};
+use gw_state::State;
+use gw_values::value_there;
+
+// A transaction gets another priority, and stays active.
+pub fn decide_priority(
+    state: &State,
+    case: Case,
+    asker: &Asker,
+    notes: &mut Notes,
+    id: StatementId,
+    priority: Option<&Expr>,
+) -> Result<Move, Halt>
+    ensures { Decides case.entry.version.now case.entry.seed
+        (priority_prog state.now asker.now id (option_copied priority.entry)) result notes.old notes.new }
+{
+    let to = value_there(state, case, asker, notes, priority)?;
+    Ok(enter_with(id, TransactionChange::Priority { to }))
+}
+
+// A transaction is marked with the clock.
+pub fn decide_mark(id: StatementId) -> Result<Move, Halt>
+    ensures { Comes (mark_prog id) result }
+{
+    Ok(enter_with(id, TransactionChange::Mark))
+}

@@ -1,0 +1,93 @@
+// QUEUE and DEPART.
+ghost use Rattle.std.specs.Prelude.{◌≡◌, option_copied};
+ghost use Rattle.gw_meaning.specs.Step.{is_too_many, queue_units, queue_prog, depart_units, depart_prog};
+ghost use Rattle.gw_asking.specs.Deciding.{Decides, Comes};
+
+use crate::entering::enter_doing;
+use gw_asking::{Case, Notes};
+use gw_entities::Queue;
+use gw_expr::{Expr, Halt, Stop};
+use gw_meaning::{Asker, Deed, Move, QueueDeed, StatementId, Transaction};
+use gw_names::Key;
+use gw_state::State;
+use gw_values::{key_of, units_of};
+
+// Units come to a queue.
+pub fn decide_queue(
+    state: &State,
+    case: Case,
+    asker: &Asker,
+    notes: &mut Notes,
+    id: StatementId,
+    entity: Option<&Expr>,
+    units: Option<&Expr>,
+) -> Result<Move, Halt>
+    ensures { Decides case.entry.version.now case.entry.seed
+        (queue_prog state.now asker.now id (option_copied entity.entry) (option_copied units.entry)) result notes.old notes.new }
+{
+    let key = key_of(state, case, asker, notes, entity)?;
+    let units = units_of(state, case, asker, notes, units)?;
+    let line = state.entities().queue(&key);
+    queue_units(id, key, line, u64::from(units))
+}
+
+// Units leave a queue.
+pub fn decide_depart(
+    state: &State,
+    case: Case,
+    asker: &Asker,
+    notes: &mut Notes,
+    x: &Transaction,
+    id: StatementId,
+    entity: Option<&Expr>,
+    units: Option<&Expr>,
+) -> Result<Move, Halt>
+    ensures { Decides case.entry.version.now case.entry.seed
+        (depart_prog state.now asker.now x.now id (option_copied entity.entry) (option_copied units.entry))
+        result notes.old notes.new }
+{
+    let key = key_of(state, case, asker, notes, entity)?;
+    let units = units_of(state, case, asker, notes, units)?;
+    let line = state.entities().queue(&key);
+    let at_once = state.entities().has_come(&key, x.number);
+    depart_units(id, key, line, at_once, u64::from(units))
+}
+
+// So many units come, unless a count would be too great.
+fn queue_units(id: StatementId, key: Key, line: Queue, units: u64) -> Result<Move, Halt>
+    ensures { Comes (queue_units id key line units) result }
+{
+    if is_too_many(line.entries().saturating_add(units))
+        || is_too_many(line.level().content().saturating_add(units))
+    {
+        return Err(Halt::stop(Stop::TooManyUnits));
+    }
+    Ok(enter_doing(id, key, Deed::Queue(QueueDeed::Queue { units })))
+}
+
+// So many units leave, unless a count would be too great or fewer are there.
+fn depart_units(
+    id: StatementId,
+    key: Key,
+    line: Queue,
+    at_once: bool,
+    units: u64,
+) -> Result<Move, Halt>
+    ensures { Comes (depart_units id key line at_once units) result }
+{
+    if at_once && is_too_many(line.zero_entries().saturating_add(units)) {
+        return Err(Halt::stop(Stop::TooManyUnits));
+    }
+    if line.level().content() < units {
+        return Err(Halt::stop(Stop::DepartTooMany));
+    }
+    let deed = QueueDeed::Depart { units, at_once };
+    Ok(enter_doing(id, key, Deed::Queue(deed)))
+}
+
+// Whether a content or a count of entries is beyond what it may be.
+pub fn is_too_many(count: u64) -> bool
+    ensures { result ≡ is_too_many count }
+{
+    count > 1_000_000_000
+}

@@ -1,0 +1,48 @@
+// SAVEVALUE: a savevalue is set, or something is added to it or taken from it.
+ghost use Rattle.std.specs.Prelude.{option_copied};
+ghost use Rattle.gw_meaning.specs.Step.{savevalue_with, savevalue_prog};
+ghost use Rattle.gw_asking.specs.Deciding.{Decides, Comes};
+
+use crate::entering::enter_doing;
+use crate::parameters::{arithmetic, by_sign};
+use gw_asking::{Case, Notes};
+use gw_expr::{Expr, Halt};
+use gw_meaning::{Asker, Auxiliary, Deed, Move, StatementId};
+use gw_names::Key;
+use gw_nums::Val;
+use gw_state::State;
+use gw_values::{key_of, value_there};
+
+// A savevalue is set to the value of B, or that is added to it or taken from it.
+pub fn decide_savevalue(
+    state: &State,
+    case: Case,
+    asker: &Asker,
+    notes: &mut Notes,
+    id: StatementId,
+    sign: Auxiliary,
+    entity: Option<&Expr>,
+    value: Option<&Expr>,
+) -> Result<Move, Halt>
+    ensures { Decides case.entry.version.now case.entry.seed
+        (savevalue_prog state.now asker.now id sign (option_copied entity.entry) (option_copied value.entry))
+        result notes.old notes.new }
+{
+    let key = key_of(state, case, asker, notes, entity)?;
+    let value = value_there(state, case, asker, notes, value)?;
+    let was = state.entities().savevalue(&key);
+    savevalue_with(id, sign, key, was, value)
+}
+
+fn savevalue_with(
+    id: StatementId,
+    sign: Auxiliary,
+    key: Key,
+    was: Option<Val>,
+    value: Val,
+) -> Result<Move, Halt>
+    ensures { Comes (savevalue_with id sign key was value) result }
+{
+    let to = arithmetic(by_sign(sign, was, value))?;
+    Ok(enter_doing(id, key, Deed::Savevalue { to }))
+}

@@ -1,0 +1,89 @@
+// SEIZE and RELEASE.
+ghost use Rattle.std.specs.Prelude.{◌≡◌, option_copied};
+ghost use Rattle.gw_meaning.specs.Machine.{delay_at};
+ghost use Rattle.gw_meaning.specs.Step.{seize_or_wait, seize_prog, first_number, is_owner, release_to, release_prog};
+ghost use Rattle.gw_asking.specs.Deciding.{Decides, Comes};
+
+use crate::entering::enter_doing;
+use gw_asking::{Case, Notes};
+use gw_expr::{Expr, Halt, Stop};
+use gw_meaning::{Asker, Deed, FacilityDeed, Move, StatementId, Transaction};
+use gw_names::Key;
+use gw_state::State;
+use gw_values::key_of;
+
+// A facility is taken, or waited for where it is owned.
+pub fn decide_seize(
+    state: &State,
+    case: Case,
+    asker: &Asker,
+    notes: &mut Notes,
+    id: StatementId,
+    entity: Option<&Expr>,
+) -> Result<Move, Halt>
+    ensures { Decides case.entry.version.now case.entry.seed
+        (seize_prog state.now asker.now id (option_copied entity.entry)) result notes.old notes.new }
+{
+    let key = key_of(state, case, asker, notes, entity)?;
+    let owned = state.entities().facility(&key).is_owned();
+    seize_or_wait(id, key, owned)
+}
+
+// Its owner gives a facility back, to the first that waits for it.
+pub fn decide_release(
+    state: &State,
+    case: Case,
+    asker: &Asker,
+    notes: &mut Notes,
+    x: &Transaction,
+    id: StatementId,
+    entity: Option<&Expr>,
+) -> Result<Move, Halt>
+    ensures { Decides case.entry.version.now case.entry.seed
+        (release_prog state.now asker.now x.now id (option_copied entity.entry)) result notes.old notes.new }
+{
+    let key = key_of(state, case, asker, notes, entity)?;
+    let owns = is_owner(state.entities().facility(&key).owner(), x.number);
+    let next = first_waiting(state, &key);
+    release_to(id, key, owns, next)
+}
+
+// The number of the first that waits for a facility.
+fn first_waiting(state: &State, key: &Key) -> Option<u64>
+    ensures { result ≡ first_number (delay_at state.now.delays key.now) }
+{
+    let place = state.delays().waiting_place(key);
+    match state.delays().first_at(key, place) {
+        Some(x) => Some(x.number),
+        None => None,
+    }
+}
+
+fn seize_or_wait(id: StatementId, key: Key, owned: bool) -> Result<Move, Halt>
+    ensures { Comes (seize_or_wait id key owned) result }
+{
+    if owned {
+        return Ok(Move::Refuse { id, key, units: 1 });
+    }
+    Ok(enter_doing(id, key, Deed::Facility(FacilityDeed::Seize)))
+}
+
+fn release_to(id: StatementId, key: Key, owns: bool, next: Option<u64>) -> Result<Move, Halt>
+    ensures { Comes (release_to id key owns next) result }
+{
+    if !owns {
+        return Err(Halt::stop(Stop::NotOwner));
+    }
+    let deed = FacilityDeed::Release { next };
+    Ok(enter_doing(id, key, Deed::Facility(deed)))
+}
+
+// Whether the transaction with a number owns it.
+fn is_owner(owner: Option<u64>, number: u64) -> bool
+    ensures { result ≡ is_owner owner number }
+{
+    match owner {
+        Some(owner) => owner == number,
+        None => false,
+    }
+}

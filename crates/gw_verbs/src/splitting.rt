@@ -1,0 +1,101 @@
+// SPLIT: copies of a transaction.
+ghost use Rattle.std.specs.Prelude.{◌≡◌, ◌+◌, Ok, nat_lt, option_copied};
+ghost use Rattle.gw_meaning.specs.Machine.{live};
+ghost use Rattle.gw_meaning.specs.Step.{split_prog, split_value, split_count, split_to, split_into};
+ghost use Rattle.gw_asking.specs.Deciding.{Decides, Comes};
+
+use crate::entering::enter_bringing;
+use gw_asking::{Case, Notes, ask_label};
+use gw_expr::{Expr, Halt, Node, Stop};
+use gw_meaning::{Asker, Change, Destination, Move, StatementId};
+use gw_nums::Val;
+use gw_state::State;
+use gw_values::{LIVE_LIMIT, value_there};
+
+// As many copies are made as the value of A says, where so many may live; they go to the block with the label, or on
+// from their own.
+pub fn decide_split(
+    state: &State,
+    case: Case,
+    asker: &Asker,
+    notes: &mut Notes,
+    id: StatementId,
+    copies: Option<&Expr>,
+    label: Option<&Expr>,
+) -> Result<Move, Halt>
+    ensures { Decides case.entry.version.now case.entry.seed
+        (split_prog state.now asker.now id (option_copied copies.entry) (option_copied label.entry))
+        result notes.old notes.new }
+{
+    let copies = value_there(state, case, asker, notes, copies)?;
+    split_value(state, case, notes, id, label, copies)
+}
+
+fn split_value(
+    state: &State,
+    case: Case,
+    notes: &mut Notes,
+    id: StatementId,
+    label: Option<&Expr>,
+    copies: Val,
+) -> Result<Move, Halt>
+    ensures { Decides case.entry.version.now case.entry.seed
+        (split_value state.now id (option_copied label.entry) copies) result notes.old notes.new }
+{
+    if copies.is_negative() {
+        return Err(Halt::stop(Stop::BadCount));
+    }
+    let count = copies.magnitude();
+    if is_too_full(state, count) {
+        return Err(Halt::stop(Stop::TooManyTransactions));
+    }
+    split_count(case, notes, id, label, count)
+}
+
+// Whether so many more may not live.
+fn is_too_full(state: &State, count: u64) -> bool
+    ensures { result ≡ nat_lt 100000 (live state.now + count) }
+{
+    state.living().saturating_add(count as usize) > LIVE_LIMIT
+}
+
+// A label is looked up only where a copy goes there.
+fn split_count(
+    case: Case,
+    notes: &mut Notes,
+    id: StatementId,
+    label: Option<&Expr>,
+    count: u64,
+) -> Result<Move, Halt>
+    ensures { Decides case.entry.version.now case.entry.seed
+        (split_count id (option_copied label.entry) count) result notes.old notes.new }
+{
+    if count == 0 {
+        return Ok(split_into(id, 0, Destination::none()));
+    }
+    let Some(expr) = label else {
+        return Ok(split_into(id, count, Destination::none()));
+    };
+    match expr.node() {
+        Node::Label(name) => {
+            let to = ask_label(case.version, notes, name)?;
+            split_to(id, count, to)
+        }
+        _ => Ok(split_into(id, count, Destination::none())),
+    }
+}
+
+fn split_to(id: StatementId, count: u64, to: Option<StatementId>) -> Result<Move, Halt>
+    ensures { Comes (split_to id count to) result }
+{
+    match to {
+        Some(to) => Ok(split_into(id, count, Destination::to(to))),
+        None => Err(Halt::stop(Stop::NoNextBlock)),
+    }
+}
+
+fn split_into(id: StatementId, count: u64, to: Destination) -> Move
+    ensures { Comes (split_into id count to) (Ok result) }
+{
+    enter_bringing(id, Change::Split { count, to })
+}

@@ -1,0 +1,183 @@
+// ENTER and LEAVE.
+ghost use Rattle.std.specs.Prelude.{Some, option_copied};
+ghost use Rattle.gw_expr.specs.Term.{Defined};
+ghost use Rattle.gw_meaning.specs.Step.{enter_or_wait, enter_storage, enter_prog, leave_for, leave_units, leave_prog};
+ghost use Rattle.gw_asking.specs.Deciding.{Decides, Comes};
+
+use crate::entering::enter_doing;
+use crate::queueing::is_too_many;
+use crate::shares::{all_shares, beside, shares_of};
+use gw_asking::{Case, Notes, ask_fits};
+use gw_entities::Storage;
+use gw_expr::{Expr, Halt, Node, Row, Stop};
+use gw_meaning::{Asker, Deed, Move, StatementId, StorageDeed};
+use gw_names::{Key, StorageName};
+use gw_state::State;
+use gw_values::units_of;
+
+// Units of a storage come into use, or are waited for where they do not fit.
+pub fn decide_enter(
+    state: &State,
+    case: Case,
+    asker: &Asker,
+    notes: &mut Notes,
+    id: StatementId,
+    storage: Option<&Expr>,
+    units: Option<&Expr>,
+) -> Result<Move, Halt>
+    ensures { Decides case.entry.version.now case.entry.seed
+        (enter_prog state.now asker.now id (option_copied storage.entry) (option_copied units.entry)) result notes.old notes.new }
+{
+    let Some(expr) = storage else {
+        return Err(Halt::stop(Stop::Range));
+    };
+    match expr.node() {
+        Node::Defined(name) => { enter_defined(state, case, asker, notes, id, name, units) }
+        _ => Err(Halt::stop(Stop::Range)),
+    }
+}
+
+// The same, of the storage with this name: it is asked whether the empty storage holds the units, and then whether
+// they fit beside those in use.
+fn enter_defined(
+    state: &State,
+    case: Case,
+    asker: &Asker,
+    notes: &mut Notes,
+    id: StatementId,
+    name: &StorageName,
+    units: Option<&Expr>,
+) -> Result<Move, Halt>
+    ensures { Decides case.entry.version.now case.entry.seed
+        (enter_prog state.now asker.now id (Some (Defined name.now)) (option_copied units.entry))
+        result notes.old notes.new }
+{
+    let units = units_of(state, case, asker, notes, units)?;
+    let large = ask_fits(case.version, notes, name.name(), u64::from(units))?;
+    let storage = state.entities().storage(name.key());
+    enter_storage(case, notes, id, name, storage, units, large)
+}
+
+// Units of a storage are given back, and those of its delay chain whose units fit are let in.
+pub fn decide_leave(
+    state: &State,
+    case: Case,
+    asker: &Asker,
+    notes: &mut Notes,
+    id: StatementId,
+    storage: Option<&Expr>,
+    units: Option<&Expr>,
+) -> Result<Move, Halt>
+    ensures { Decides case.entry.version.now case.entry.seed
+        (leave_prog state.now asker.now id (option_copied storage.entry) (option_copied units.entry)) result notes.old notes.new }
+{
+    let Some(expr) = storage else {
+        return Err(Halt::stop(Stop::Range));
+    };
+    match expr.node() {
+        Node::Defined(name) => { leave_defined(state, case, asker, notes, id, name, units) }
+        _ => Err(Halt::stop(Stop::Range)),
+    }
+}
+
+// The same, of the storage with this name.
+fn leave_defined(
+    state: &State,
+    case: Case,
+    asker: &Asker,
+    notes: &mut Notes,
+    id: StatementId,
+    name: &StorageName,
+    units: Option<&Expr>,
+) -> Result<Move, Halt>
+    ensures { Decides case.entry.version.now case.entry.seed
+        (leave_prog state.now asker.now id (Some (Defined name.now)) (option_copied units.entry))
+        result notes.old notes.new }
+{
+    let units = units_of(state, case, asker, notes, units)?;
+    let storage = state.entities().storage(name.key());
+    leave_units(state, case, notes, id, name, storage, u64::from(units))
+}
+
+// No more units are given back than are in use.
+fn leave_units(
+    state: &State,
+    case: Case,
+    notes: &mut Notes,
+    id: StatementId,
+    name: &StorageName,
+    storage: Storage,
+    units: u64,
+) -> Result<Move, Halt>
+    ensures { Decides case.entry.version.now case.entry.seed
+        (leave_units state.now id name.now storage units) result notes.old notes.new }
+{
+    let content = storage.level().content();
+    if content < units {
+        return Err(Halt::stop(Stop::LeaveTooMany));
+    }
+    let chain = state.delays().chain(name.key());
+    let shares = shares_of(case, notes, name.name(), chain, content - units)?;
+    leave_for(id, name.key().clone()?, storage, units, shares)
+}
+
+// The units are more than the storage has, or it is asked whether they fit beside those in use.
+fn enter_storage(
+    case: Case,
+    notes: &mut Notes,
+    id: StatementId,
+    name: &StorageName,
+    storage: Storage,
+    units: u32,
+    large: bool,
+) -> Result<Move, Halt>
+    ensures { Decides case.entry.version.now case.entry.seed
+        (enter_storage id name.now storage units large) result notes.old notes.new }
+{
+    if !large {
+        return Err(Halt::stop(Stop::TooManyUnits));
+    }
+    let wanted = beside(u64::from(units), storage.level().content());
+    let fits = ask_fits(case.version, notes, name.name(), wanted)?;
+    enter_or_wait(id, name.key().clone()?, storage, units, fits)
+}
+
+// Units that fit come into use, whoever waits, unless a count would be too great; else the transaction waits.
+fn enter_or_wait(
+    id: StatementId,
+    key: Key,
+    storage: Storage,
+    units: u32,
+    fits: bool,
+) -> Result<Move, Halt>
+    ensures { Comes (enter_or_wait id key storage units fits) result }
+{
+    if !fits {
+        return Ok(Move::Refuse { id, key, units });
+    }
+    let units = u64::from(units);
+    if is_too_many(storage.entries().saturating_add(units)) {
+        return Err(Halt::stop(Stop::TooManyUnits));
+    }
+    Ok(enter_doing(id, key, Deed::Storage(StorageDeed::Enter { units })))
+}
+
+// Units are given back, and those who have a share are let in, unless a count would be too great.
+fn leave_for(
+    id: StatementId,
+    key: Key,
+    storage: Storage,
+    units: u64,
+    shares: Row<Option<u64>>,
+) -> Result<Move, Halt>
+    ensures { Comes (leave_for id key storage units shares) result }
+{
+    if is_too_many(
+        storage
+            .entries()
+            .saturating_add(all_shares(shares.as_slice())),
+    ) {
+        return Err(Halt::stop(Stop::TooManyUnits));
+    }
+    Ok(enter_doing(id, key, Deed::Storage(StorageDeed::Leave { units, shares })))
+}
