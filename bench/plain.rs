@@ -7,13 +7,14 @@
 //! `.rs`: `bench/unproved` builds it, as a crate beside the others.
 #![tactic(auto)]
 
+use gw_expr::End;
 use gw_io::{Budget, FromRead, Sink, Source, ToWrite, split_model, write_all};
-use gw_meaning::{End, Outcome};
+use gw_meaning::Outcome;
 use gw_model::Version;
 use gw_report::print;
 use gw_scan::{Notes, Tally, Turn, end_at, step};
-use gw_state::State;
 use gw_script::{Fault, Options, open_version};
+use gw_state::State;
 use std::alloc::{AllocError, Global};
 use std::io::BufReader;
 use std::process::ExitCode;

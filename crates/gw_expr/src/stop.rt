@@ -3,7 +3,7 @@ ghost use Rattle.gw_expr.specs.Stops.{number_of};
 
 use thiserror::Error;
 
-/// Halt an attempt, or the priming of a START, cannot go on. The numbers X1 to X12 are the product's own.
+/// Why an attempt, or the priming of a START, cannot go on. The numbers X1 to X12 are the product's own.
 #[derive(Clone, Copy, Debug, PartialEq, Eq, Error)]
 pub enum Stop {
     /// X1: a sampled time, a half range or a time to the first transaction is below 0.

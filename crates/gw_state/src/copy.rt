@@ -54,7 +54,7 @@ impl State {
             progress: self.progress,
             streams: self.streams,
             next: self.next,
-            active: self.active.copy(),
+            active: self.active,
             current: chains.current,
             future: chains.future,
             delays: chains.delays,

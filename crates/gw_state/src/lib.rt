@@ -4,7 +4,6 @@
 //! refused growth changes nothing.
 #![tactic(auto)]
 
-mod active;
 mod clocks;
 mod copy;
 mod deeds;

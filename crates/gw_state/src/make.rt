@@ -9,7 +9,6 @@ ghost use Rattle.gw_meaning.specs.Machine.{Machine};
 ghost use Rattle.gw_state.specs.Parts.{entities_of};
 ghost use Rattle.gw_state.specs.Making.{IsMade, IsAlone, HasRoom, active_behind, StandsWithin, brought, given, kept_by, linked_by};
 
-use crate::active::Active;
 use crate::entities::Entities;
 use crate::letting_in::{admit, reserve_to_admit};
 use crate::newcomers::{copy_all, make, make_all};
@@ -120,7 +119,7 @@ impl State {
             ..*x
         };
         self.delays.line_up(key, bound)?;
-        self.active.clear();
+        self.active = None;
         Ok(())
     }
 
@@ -129,7 +128,7 @@ impl State {
         ensures { self.new ≡ moved self.old moves.Pick }
     {
         if let Some(x) = self.current.take_first() {
-            self.active.put(x);
+            self.active = Some(x);
         }
     }
 
@@ -155,7 +154,7 @@ impl State {
             return Ok(());
         };
         self.retry.watch(*x, read)?;
-        self.active.clear();
+        self.active = None;
         Ok(())
     }
 
@@ -395,7 +394,7 @@ fn own_marked(change: &TransactionChange, clock: Clock, x: Transaction) -> Trans
 
 // What becomes of the transaction that entered a block, but for its parameters and its user chain.
 fn settle(
-    active: &mut Active,
+    active: &mut Option<Transaction>,
     current: &mut PriorityChain,
     future: &mut FutureChain,
     progress: &mut Progress,
@@ -425,21 +424,21 @@ fn settle(
     ensures future_room { future.old.room ≤ future.new.room + 1 }
 {
     match fate {
-        Fate::Active => active.put(x),
+        Fate::Active => *active = Some(x),
         Fate::Current => {
-            active.clear();
+            *active = None;
             current.line_up(x);
         }
         Fate::Delayed { until } => {
-            active.clear();
+            *active = None;
             future.put(Event {
                 time: *until,
                 transaction: x,
             });
         }
-        Fate::Linked { .. } => active.clear(),
+        Fate::Linked { .. } => *active = None,
         Fate::Destroyed { count } => {
-            active.clear();
+            *active = None;
             progress.count_down(*count);
         }
     }
@@ -449,7 +448,7 @@ fn settle(
 // already, an UNLINK those who leave its user chain, a RELEASE and a LEAVE those whom they let in.
 fn bring(
     change: &Change,
-    active: &Active,
+    active: &Option<Transaction>,
     next: &mut u64,
     delays: &mut DelayChains,
     linked: &mut UserChains,

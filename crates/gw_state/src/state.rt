@@ -3,7 +3,6 @@ ghost use Rattle.gw_meaning.specs.Machine.{zero_state, count_at, live};
 ghost use Rattle.gw_chains.specs.Chains.{delays_of};
 ghost use Rattle.gw_state.specs.Parts.{entities_of};
 
-use crate::active::Active;
 use crate::clocks::Clocks;
 use crate::entities::Entities;
 use crate::progress::Progress;
@@ -23,7 +22,7 @@ pub struct State {
     pub(crate) progress: Progress,
     pub(crate) streams: Streams,
     pub(crate) next: u64,
-    pub(crate) active: Active,
+    pub(crate) active: Option<Transaction>,
     pub(crate) current: PriorityChain,
     pub(crate) future: FutureChain,
     pub(crate) delays: DelayChains,
@@ -72,7 +71,7 @@ impl State {
             progress: Progress::zero(),
             streams: Streams::new(),
             next: 1,
-            active: Active::none(),
+            active: None,
             current: PriorityChain::new(alloc),
             future: FutureChain::new(alloc),
             delays: DelayChains::new(alloc),

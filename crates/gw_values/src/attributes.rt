@@ -1,7 +1,7 @@
 // The values of attributes: what a state says of itself, of the transaction that asks, of an entity or of a block.
 ghost use Rattle.std.specs.Prelude.{◌≡◌, pos};
 ghost use Rattle.gw_expr.specs.declared.attribute.Subject.TheVariants as subjects;
-ghost use Rattle.gw_meaning.specs.Evaluation.{amount, own_value, owned, subject_prog, named, numbered, parameter_value, entity_value, defined_prog, storage_value, table_value, block_count, counted, block_value, drawn_prog, random_prog, random_part, millionths, thousandth, attribute_prog, ◌~>◌, left_prog, units_left};
+ghost use Rattle.gw_meaning.specs.Evaluation.{amount, own_value, owned, subject_prog, named, numbered, parameter_value, value_held, entity_value, defined_prog, storage_value, table_value, block_count, counted, block_value, drawn_prog, random_prog, random_part, millionths, thousandth, attribute_prog, ◌~>◌, left_prog, units_left};
 ghost use Rattle.gw_meaning.specs.Step.{for_none, for_one};
 ghost use Rattle.gw_asking.specs.Deciding.{Decides, Comes};
 
@@ -43,10 +43,11 @@ pub fn attribute(
             own_value(state, asker, class)
         }
         Class::P => of_parameter(state, case, asker, notes, of),
-        Class::F | Class::Fc | Class::Q | Class::Qc | Class::Qm | Class::Qz => {
-            of_entity(state, case, notes, class, of)
-        }
-        Class::X | Class::Ls | Class::Ch | Class::Cc => of_entity(state, case, notes, class, of),
+        Class::F | Class::Fc => of_entity(state, case, notes, class, of),
+        Class::Q | Class::Qc => of_entity(state, case, notes, class, of),
+        Class::Qm | Class::Qz => of_entity(state, case, notes, class, of),
+        Class::X | Class::Ls => of_entity(state, case, notes, class, of),
+        Class::Ch | Class::Cc => of_entity(state, case, notes, class, of),
         Class::S | Class::Sc | Class::Sm => of_storage(state, class, of),
         Class::R => left(state, case, notes, of),
         Class::Tc => of_table(state, of),

@@ -72,8 +72,9 @@ returns-then-is_negative c =
     let n = c.in_ok-limit.limit in
     let below : is_negative n ≡ true = search rules in
     let here : rest n ≡ ends_with (ends.Error BadCount) = rw below refl in
-    decides_whole t seed first rest _ n (Err (halts.End (ends.Error BadCount))) c.args.notes.now c.value.new.notes c.value.new.notes whole c.in_ok-limit.ensures
-    (decides_comes t seed (rest n) (Err (halts.End (ends.Error BadCount))) c.value.new.notes here)
+    rw c.stop.ensures
+    (decides_whole t seed first rest _ n (Err (halts.End (ends.Error BadCount))) c.args.notes.now c.value.new.notes c.value.new.notes whole c.in_ok-limit.ensures
+    (decides_comes t seed (rest n) (Err (halts.End (ends.Error BadCount))) c.value.new.notes here))
 
 pub returns-then-magnitude-count : goal.returns-then-magnitude-count
 returns-then-magnitude-count c =

@@ -30,8 +30,9 @@ returns-then-get-lt1 c =
     let n = c.in_ok-units.units in
     let below : is_below n (pos 1) ≡ true = search rules in
     let here : rest n ≡ ends_with (ends.Error BadCount) = rw below refl in
-    decides_whole t seed first rest _ n (Err (halts.End (ends.Error BadCount))) c.args.notes.now c.value.new.notes c.value.new.notes whole c.in_ok-units.ensures
-    (decides_comes t seed (rest n) (Err (halts.End (ends.Error BadCount))) c.value.new.notes here)
+    rw c.stop.ensures
+    (decides_whole t seed first rest _ n (Err (halts.End (ends.Error BadCount))) c.args.notes.now c.value.new.notes c.value.new.notes whole c.in_ok-units.ensures
+    (decides_comes t seed (rest n) (Err (halts.End (ends.Error BadCount))) c.value.new.notes here))
 
 pub returns : goal.returns
 returns c =

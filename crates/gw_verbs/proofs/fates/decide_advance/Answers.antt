@@ -43,5 +43,6 @@ returns-then-is_negative c =
     let key = c.in_ok-time.time in
     let below : is_negative key ≡ true = search rules in
     let here : rest key ≡ ends_with (ends.Error NegativeTime) = rw below refl in
-    decides_then t seed (time_prog s q (option_copied c.args.mean) (option_copied c.args.range)) rest key
-    (Err (halts.End (ends.Error NegativeTime))) _ _ _ c.in_ok-time.ensures (decides_comes t seed (rest key) (Err (halts.End (ends.Error NegativeTime))) _ here)
+    rw c.stop.ensures
+    (decides_then t seed (time_prog s q (option_copied c.args.mean) (option_copied c.args.range)) rest key
+    (Err (halts.End (ends.Error NegativeTime))) _ _ _ c.in_ok-time.ensures (decides_comes t seed (rest key) (Err (halts.End (ends.Error NegativeTime))) _ here))

@@ -43,5 +43,6 @@ returns-then-is_negative c =
     let key = c.in_ok-count.count in
     let below : is_negative key ≡ true = search rules in
     let here : rest key ≡ ends_with (ends.Error BadCount) = rw below refl in
-    decides_then t seed (value_or_zero s q (option_copied c.args.count)) rest key
-    (Err (halts.End (ends.Error BadCount))) _ _ _ c.in_ok-count.ensures (decides_comes t seed (rest key) (Err (halts.End (ends.Error BadCount))) _ here)
+    rw c.stop.ensures
+    (decides_then t seed (value_or_zero s q (option_copied c.args.count)) rest key
+    (Err (halts.End (ends.Error BadCount))) _ _ _ c.in_ok-count.ensures (decides_comes t seed (rest key) (Err (halts.End (ends.Error BadCount))) _ here))
