@@ -1,21 +1,11 @@
 -- What a function that asks came to, against the evaluation that it stands for.
-use Rattle.std.specs.Prelude.{◌≡◌, ℕ, Bool, true, false, not, List, Option, Some, None, Result, Ok, Err}
-use Rattle.gw_expr.specs.declared.stop.Stop.TheVariants.{TooManyUnits}
-use Rattle.gw_names.specs.declared.key.Key.{Key}
-use Rattle.gw_meaning.specs.declared.item.Asked.TheVariants as asking
-use Rattle.gw_meaning.specs.declared.item.Item.TheVariants as items
-use Rattle.gw_meaning.specs.declared.entity_change.Deed.TheVariants as deeds
-use Rattle.gw_meaning.specs.declared.moves.Change.TheVariants as changes
-use Rattle.gw_meaning.specs.declared.transaction_change.TransactionChange.TheVariants as own
-use Rattle.gw_meaning.specs.declared.moves.Fate.TheVariants as fates
-use Rattle.gw_meaning.specs.declared.moves.Move.{Move}
-use Rattle.gw_meaning.specs.declared.moves.Move.TheVariants as moves
-use Rattle.gw_meaning.specs.Listing.{Listing}
-use Rattle.gw_meaning.specs.Questions.{result_of, items_of}
-use Rattle.gw_meaning.specs.Evaluation.{Eval, gives, ends_with, asks, stops_if}
-use Rattle.gw_asking.specs.Noted.{Noted, Reads, Keeps}
+use Rattle.std.specs.Prelude.{◌≡◌, ℕ, Result, Ok, Err}
 use Rattle.gw_expr.specs.declared.halt.Halt.{Halt}
 use Rattle.gw_expr.specs.declared.halt.Halt.TheVariants as halts
+use Rattle.gw_meaning.specs.Listing.{Listing}
+use Rattle.gw_meaning.specs.Questions.{result_of, items_of}
+use Rattle.gw_meaning.specs.Evaluation.{Eval, gives, ends_with}
+use Rattle.gw_asking.specs.Noted.{Noted, Reads, Keeps}
 
 -- the result, the questions and the streams behind the draws are the evaluation's; only a refused growth leaves them
 -- open, and it keeps what was noted of earlier steps

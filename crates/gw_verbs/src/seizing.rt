@@ -52,8 +52,9 @@ pub fn decide_release(
 fn first_waiting(state: &State, key: &Key) -> Option<u64>
     ensures { result ≡ first_number (delay_at state.now.delays key.now) }
 {
-    let place = state.delays().waiting_place(key);
-    match state.delays().first_at(key, place) {
+    let delays = state.delays();
+    let place = delays.waiting_place(key);
+    match delays.first_at(key, place) {
         Some(x) => Some(x.number),
         None => None,
     }

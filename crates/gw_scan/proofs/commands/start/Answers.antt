@@ -1,8 +1,7 @@
-use Rattle.std.proofs.Common.{◌≡◌, false, List, Ok, ap, sym, ◌∙◌}
+use Rattle.std.proofs.Common.{◌≡◌, false, List, Ok, sym, ◌∙◌}
 use Rattle.gw_meaning.specs.declared.moves.Move.{Move}
 use Rattle.gw_meaning.specs.declared.moves.Arrival.{Arrival}
 use Rattle.gw_meaning.specs.declared.moves.Move.TheVariants as moves
-use Rattle.gw_meaning.specs.Machine.{Machine}
 use Rattle.gw_meaning.specs.Evaluation.{Eval, gives}
 use Rattle.gw_meaning.specs.Step.{first_arrivals_prog}
 use Rattle.gw_asking.proofs.Binding.{decides_left, decides_then, decides_gives}
@@ -13,7 +12,7 @@ returns-in_err-arrivals c =
     let t = c.args.case.version.now in
     let seed = c.args.case.seed in
     let s = c.args.state.now in
-    let unprimed : s.primed ≡ false = ap (λ (m : Machine). m.primed) (sym c.state.view_is) ∙ (sym c.is_primed.ensures ∙ c.if-is_primed.false) in
+    let unprimed : s.primed ≡ false = sym c.is_primed.ensures ∙ c.if-is_primed.false in
     let rest : List Arrival → Eval Move = λ first. gives (moves.Start c.args.count first) in
     rw unprimed (decides_left t seed (first_arrivals_prog s c.args.count) rest _ c.in_err-arrivals.field-0.0 _ _ c.from_residual.ensures.1 c.in_err-arrivals.ensures)
 
@@ -22,7 +21,7 @@ returns c =
     let t = c.args.case.version.now in
     let seed = c.args.case.seed in
     let s = c.args.state.now in
-    let unprimed : s.primed ≡ false = ap (λ (m : Machine). m.primed) (sym c.state.view_is) ∙ (sym c.is_primed.ensures ∙ c.if-is_primed.false) in
+    let unprimed : s.primed ≡ false = sym c.is_primed.ensures ∙ c.if-is_primed.false in
     let rest : List Arrival → Eval Move = λ first. gives (moves.Start c.args.count first) in
     let first = c.in_ok-arrivals.arrivals in
     let m = moves.Start c.args.count first in

@@ -1,5 +1,5 @@
 use Rattle.std.proofs.Common.{ap, ◌∙◌}
-use Rattle.gw_meaning.specs.Machine.{Machine}
+use Rattle.gw_meaning.specs.Changes.{decided}
 use Rattle.gw_meaning.specs.Step.{move_prog}
 use Rattle.gw_scan.proofs.Deciding.{is_made, acts_left, acts_refused}
 use Rattle.gw_scan.proofs.steps.act.Goals as goal
@@ -24,5 +24,5 @@ pub returns : goal.returns
 returns c = (
   c.in_ok-to.to,
   c.in_ok-to.ensures,
-  c.take_draws.ensures ∙ ap (λ (after : Machine). record after { streams = c.decide.new.notes.streams }) c.in_ok-make.ensures.ok,
+  c.in_ok-make.ensures.ok ∙ ap (λ streams. decided c.args.state.now c.in_ok-to.to streams) c.streams.ensures,
 )

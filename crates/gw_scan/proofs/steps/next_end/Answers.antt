@@ -13,13 +13,13 @@ returns-in-Ok c =
     let same = ap (λ (n : Noted). n.streams) c.new-notes.ensures ∙ c.streams.ensures in
     goes_on (step t seed s) _ (foretold t seed s (Ok c.in-Ok.to) c.new-notes.result c.decide-decided.new.notes same c.in-Ok.ensures)
 
-pub returns-in-End : goal.returns-in-End
-returns-in-End c =
+pub returns-in-Err-End : goal.returns-in-Err-End
+returns-in-Err-End c =
     let t = c.args.case.version.now in
     let seed = c.args.case.seed in
     let s = c.args.state.now in
     let same = ap (λ (n : Noted). n.streams) c.new-notes.ensures ∙ c.streams.ensures in
-    let end = c.in-End.end in
-    let halt : c.in-Err.halt ≡ halts.End end = search rules in
+    let end = c.in-Err-End.end in
+    let told : c.decide-decided.result ≡ Err (halts.End end) = search rules in
     ends_as (step t seed s) end
-    (foretold t seed s (Err (halts.End end)) c.new-notes.result c.decide-decided.new.notes same (rw halt at c.in-Err.ensures))
+    (foretold t seed s (Err (halts.End end)) c.new-notes.result c.decide-decided.new.notes same (rw told at c.decide-decided.ensures))

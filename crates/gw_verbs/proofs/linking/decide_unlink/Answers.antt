@@ -27,7 +27,7 @@ returns-in_err-count c =
     let last : Key → ℕ → Eval Move = λ key n. unlink_count c.args.id key (option_copied c.args.label) n in
     let rest : Key → Eval Move = λ key. leaving_prog s q (option_copied c.args.count) (length (user_chain_at s.linked key).members) ~> last key in
     let key = c.in_ok-key.key in
-    let F : ℕ → Type 0 = λ n. Decides t seed (leaving_prog s q (option_copied c.args.count) n) (Err c.in_err-count.field-0.0) c.entity.new.notes c.leaving.new.notes in
+    let F : ℕ → Type 0 = λ n. Decides t seed (leaving_prog s q (option_copied c.args.count) n) (Err c.in_err-count.field-0.0) c.key_of.new.notes c.leaving.new.notes in
     let there : c.len-there.result ≡ length (user_chain_at s.linked key).members = search rules in
     decides_then t seed (entity_prog s q (option_copied c.args.entity)) rest key _ _ _ _ c.in_ok-key.ensures
     (decides_left t seed (leaving_prog s q (option_copied c.args.count) (length (user_chain_at s.linked key).members)) (last key) _ c.in_err-count.field-0.0 _ _
@@ -42,7 +42,7 @@ returns c =
     let last : Key → ℕ → Eval Move = λ key n. unlink_count c.args.id key (option_copied c.args.label) n in
     let rest : Key → Eval Move = λ key. leaving_prog s q (option_copied c.args.count) (length (user_chain_at s.linked key).members) ~> last key in
     let key = c.in_ok-key.key in
-    let F : ℕ → Type 0 = λ n. Decides t seed (leaving_prog s q (option_copied c.args.count) n) (Ok c.in_ok-count.count) c.entity.new.notes c.leaving.new.notes in
+    let F : ℕ → Type 0 = λ n. Decides t seed (leaving_prog s q (option_copied c.args.count) n) (Ok c.in_ok-count.count) c.key_of.new.notes c.leaving.new.notes in
     let there : c.len-there.result ≡ length (user_chain_at s.linked key).members = search rules in
     decides_then t seed (entity_prog s q (option_copied c.args.entity)) rest key _ _ _ _ c.in_ok-key.ensures
     (decides_then t seed (leaving_prog s q (option_copied c.args.count) (length (user_chain_at s.linked key).members)) (last key) c.in_ok-count.count _ _ _ _
