@@ -1,15 +1,21 @@
 -- What a contract sees of a `KeySet`. (Our own.)
-use Rattle.std.specs.Prelude.{ℕ, List}
+use Rattle.std.specs.Prelude.{ℕ, List, [], Option, Some, None}
 use Rattle.indexmap.specs.IndexSet.{spare}
 use Rattle.gw_names.specs.declared.key.Key.{Key}
-use Rattle.gw_entities.specs.declared.key_set.Keys.{Keys}
-use Rattle.gw_entities.specs.declared.key_set.Keys.TheVariants.{Own, Shared}
+use Rattle.gw_entities.specs.declared.key_set.Settled.{Settled}
+use Rattle.gw_entities.specs.declared.recent.Keys.{Keys}
+use Rattle.gw_entities.specs.declared.recent.Keys.TheVariants.{Own, Shared}
 
 -- keys in order
 pub record KeyList : Type 0 where
   pub keys : List Key
   -- for how many more there is room
   pub room : ℕ
+
+-- the keys that are settled
+abbrev pub settled_keys : Option Settled → List Key
+settled_keys None = []
+settled_keys (Some settled) = settled.keys.value.keys
 
 -- the keys of a set, whether or not copies share them
 abbrev pub keys_in : Keys → List Key

@@ -1,35 +1,52 @@
 ghost use Rattle.std.specs.Prelude.{◌≡◌, ◌<◌, ◌≤◌, ◌^◌, [], Some, false, length, slice_get, IfSome, IfNone, IfOk, OnOk, OnErr};
 ghost use Rattle.std.specs.List.{list_any, IsDistinct};
-ghost use Rattle.indexmap.specs.IndexSet.{insert_key, spare};
+ghost use Rattle.indexmap.specs.IndexSet.{insert_key};
 ghost use Rattle.gw_names.specs.Keys.{key_eq};
+ghost use Rattle.gw_entities.specs.KeySets.{settled_keys};
 
+use crate::recent::{Recent, place_in};
 use gw_names::Key;
 use indexmap::IndexSet;
 use std::alloc::{AllocError, Global};
 use std::marker::Model;
-use std::mem;
 use std::sync::Arc;
 
-/// Keys in the order of coming, none of them twice, found by their hash. Copies share them, until one of them takes a
-/// further key.
+// Where more than one of so many keys are recent, all are settled.
+const PART: usize = 8;
+
+// How many keys there may be at the most, 2^63 - 1.
+const LIMIT: usize = 9_223_372_036_854_775_807;
+
+/// Keys in the order of coming, none of them twice, found by their hash. Copies share them: for a further key no more
+/// are copied than an eighth of them.
 #[derive(Drop)]
 pub struct KeySet {
-    keys: Keys,
+    settled: Option<Settled>,
+    // Those that came behind the settled ones.
+    recent: Recent,
 }
 
-// Keys that copies may share are not changed any more. The others are the set's own.
+// Keys that copies share whole. None comes to them.
 #[derive(Drop)]
-enum Keys {
-    Own(IndexSet<Key>),
-    Shared(Arc<IndexSet<Key>>),
+pub struct Settled {
+    pub keys: Arc<IndexSet<Key>>,
 }
 
 impl Model for KeySet {
-    ghost use Rattle.gw_entities.specs.KeySets.{KeyList, keys_in, room_in};
+    ghost use Rattle.std.specs.Prelude.{◌++◌, ◌-◌, ◌<◌, ◌^◌, length, min};
+    ghost use Rattle.std.specs.List.{IsDistinct};
+    ghost use Rattle.gw_names.specs.Keys.{key_eq};
+    ghost use Rattle.gw_entities.specs.KeySets.{KeyList, settled_keys};
 
     ghost Value = { KeyList };
 
-    ghost view = { λ s. record { keys = keys_in s.keys; room = room_in s.keys } };
+    ghost view = { λ s. record {
+      keys = settled_keys s.settled ++ s.recent.keys;
+      room = min s.recent.room (9223372036854775807 - length (settled_keys s.settled ++ s.recent.keys));
+    } };
+
+    ghost invariant = { λ s. IsDistinct key_eq (settled_keys s.settled ++ s.recent.keys)
+        × (length (settled_keys s.settled ++ s.recent.keys) < 2 ^ 63) };
 }
 
 impl KeySet {
@@ -38,7 +55,8 @@ impl KeySet {
         ensures { result.keys ≡ [] }
     {
         KeySet {
-            keys: Keys::Own(IndexSet::new(alloc)),
+            settled: None,
+            recent: Recent::new(alloc),
         }
     }
 
@@ -49,8 +67,11 @@ impl KeySet {
         ensures within { IfSome result (λ i. i < length self.now.keys) }
         ensures none { IfNone result (list_any (key_eq key.now) self.now.keys ≡ false) }
     {
-        match self.set().get_full(key) {
-            Some((index, _)) => Some(index),
+        if let Some(index) = settled_place(&self.settled, key) {
+            return Some(index);
+        }
+        match place_in(self.recent.set(), key) {
+            Some(index) => Some(settled_len(&self.settled) + index),
             None => None,
         }
     }
@@ -62,7 +83,7 @@ impl KeySet {
         ensures bound { result < 2 ^ 63 }
         ensures distinct { IsDistinct key_eq self.now.keys }
     {
-        self.set().len()
+        settled_len(&self.settled) + self.recent.set().len()
     }
 
     /// The key at an index.
@@ -71,17 +92,11 @@ impl KeySet {
         requires { index < length self.now.keys }
         ensures { slice_get self.now.keys index ≡ Some result.now }
     {
-        &self.set()[index]
-    }
-
-    // The set of them.
-    #[inline(always)]
-    fn set(&self) -> &IndexSet<Key>
-        ensures { result.now.keys ≡ self.now.keys }
-    {
-        match &self.keys {
-            Keys::Own(set) => set,
-            Keys::Shared(shared) => shared,
+        let settled = settled_len(&self.settled);
+        if index < settled {
+            settled_at(&self.settled, index)
+        } else {
+            &self.recent.set()[index - settled]
         }
     }
 
@@ -92,14 +107,10 @@ impl KeySet {
         ensures keys { self.new.keys ≡ self.old.keys }
         ensures room { self.old.room ≤ self.new.room }
     {
-        match &mut self.keys {
-            Keys::Own(set) => set.reserve(1),
-            Keys::Shared(shared) => {
-                let own = with_room(shared)?;
-                self.keys = Keys::Own(own);
-                Ok(())
-            }
+        if self.len() == LIMIT {
+            return Err(AllocError);
         }
+        self.recent.reserve()
     }
 
     /// A key comes behind the others, unless it is there.
@@ -108,12 +119,9 @@ impl KeySet {
         ensures keys { self.new.keys ≡ insert_key key_eq self.old.keys key }
         ensures distinct { IsDistinct key_eq self.new.keys }
     {
-        let Keys::Own(set) = &mut self.keys else {
-            unreachable!()
-        };
-        match set.insert(key) {
-            Ok(_) => (),
-            Err(_) => unreachable!(),
+        match settled_place(&self.settled, &key) {
+            Some(_) => (),
+            None => self.recent.insert(key),
         }
     }
 
@@ -149,44 +157,99 @@ impl KeySet {
     pub fn share(&mut self) -> Result<(), AllocError>
         ensures { self.new.keys ≡ self.old.keys }
     {
-        let alloc = *self.set().allocator();
-        match mem::replace(&mut self.keys, Keys::Own(IndexSet::new(alloc))) {
-            Keys::Own(set) => match Arc::new(alloc, set) {
-                Ok(shared) => {
-                    self.keys = Keys::Shared(shared);
-                    Ok(())
-                }
-                Err(failed) => {
-                    self.keys = Keys::Own(failed.value);
-                    Err(AllocError)
-                }
-            },
-            Keys::Shared(shared) => {
-                self.keys = Keys::Shared(shared);
-                Ok(())
-            }
+        if self.recent.set().len() > settled_len(&self.settled) / PART {
+            self.settle()?;
         }
+        self.recent.share()
+    }
+
+    // All keys are settled.
+    #[cold]
+    fn settle(&mut self) -> Result<(), AllocError>
+        ensures { self.new.keys ≡ self.old.keys }
+    {
+        let alloc = *self.recent.set().allocator();
+        let all = self.all(alloc)?;
+        let keys = Arc::new(alloc, all)?;
+        self.settled = Some(Settled { keys });
+        self.recent = Recent::new(alloc);
+        Ok(())
+    }
+
+    // All keys in one set.
+    fn all(&self, alloc: Global) -> Result<IndexSet<Key>, AllocError>
+        ensures { IfOk result (λ s. s.keys ≡ self.now.keys) }
+    {
+        let mut all = settled_set(&self.settled, alloc)?;
+        let recent = self.recent.set();
+        for index in 0..recent.len() {
+            let key = recent[index].clone()?;
+            all.insert(key)?;
+        }
+        Ok(all)
     }
 
     /// The same keys.
     pub fn copy(&self) -> Result<KeySet, AllocError>
         ensures { IfOk result (λ s. s.keys ≡ self.now.keys) }
     {
-        let keys = match &self.keys {
-            Keys::Own(set) => Keys::Own(set.clone()?),
-            Keys::Shared(shared) => Keys::Shared(Arc::try_clone(shared)?),
+        let settled = match &self.settled {
+            Some(settled) => Some(Settled {
+                keys: Arc::try_clone(&settled.keys)?,
+            }),
+            None => None,
         };
-        Ok(KeySet { keys })
+        let recent = self.recent.copy()?;
+        Ok(KeySet { settled, recent })
     }
 }
 
-// The same keys, with room for one more.
-#[cold]
-fn with_room(keys: &IndexSet<Key>) -> Result<IndexSet<Key>, AllocError>
-    ensures keys { IfOk result (λ s. s.keys ≡ keys.now.keys) }
-    ensures room { IfOk result (λ s. 0 < spare s) }
+// Where a key lies, if it is settled.
+#[inline(always)]
+fn settled_place(settled: &Option<Settled>, key: &Key) -> Option<usize>
+    ensures there { IfSome result (λ i. slice_get (settled_keys settled.now) i ≡ Some key.now) }
+    ensures within { IfSome result (λ i. i < length (settled_keys settled.now)) }
+    ensures none { IfNone result (list_any (key_eq key.now) (settled_keys settled.now) ≡ false) }
 {
-    let mut own = keys.clone()?;
-    own.reserve(1)?;
-    Ok(own)
+    match settled {
+        Some(settled) => place_in(&settled.keys, key),
+        None => None,
+    }
+}
+
+// How many keys are settled.
+#[inline(always)]
+fn settled_len(settled: &Option<Settled>) -> usize
+    ensures len { result ≡ length (settled_keys settled.now) }
+    ensures bound { result < 2 ^ 63 }
+{
+    match settled {
+        Some(settled) => settled.keys.len(),
+        None => 0,
+    }
+}
+
+// The settled key at an index.
+#[inline(always)]
+fn settled_at(settled: &Option<Settled>, index: usize) -> &Key
+    requires { index < length (settled_keys settled.now) }
+    ensures { slice_get (settled_keys settled.now) index ≡ Some result.now }
+{
+    match settled {
+        Some(settled) => &settled.keys[index],
+        None => unreachable!(),
+    }
+}
+
+// The settled keys in a set that nobody shares.
+fn settled_set(settled: &Option<Settled>, alloc: Global) -> Result<IndexSet<Key>, AllocError>
+    ensures { IfOk result (λ s. s.keys ≡ settled_keys settled.now) }
+{
+    match settled {
+        Some(settled) => {
+            let keys: &IndexSet<Key> = &settled.keys;
+            keys.clone()
+        }
+        None => Ok(IndexSet::new(alloc)),
+    }
 }
