@@ -1,5 +1,5 @@
 use Rattle.gw_entities.specs.KeySets.{settled_keys}
-use Rattle.gw_entities.proofs.Settling.{stays, comes, come}
+use Rattle.gw_entities.proofs.Settling.{stays, come}
 use Rattle.gw_entities.proofs.key_set.KeySet.insert.Goals as goal
 
 pub invariant_of-self : goal.invariant_of-self
