@@ -163,12 +163,17 @@ impl KeySet {
         self.recent.share()
     }
 
+    // Where its memory comes from.
+    pub(crate) fn allocator(&self) -> Global {
+        *self.recent.set().allocator()
+    }
+
     // All keys are settled.
     #[cold]
     fn settle(&mut self) -> Result<(), AllocError>
         ensures { self.new.keys ≡ self.old.keys }
     {
-        let alloc = *self.recent.set().allocator();
+        let alloc = self.allocator();
         let all = self.all(alloc)?;
         let keys = Arc::new(alloc, all)?;
         self.settled = Some(Settled { keys });
