@@ -2,14 +2,12 @@ ghost use Rattle.std.specs.Prelude.{◌≡◌, ◌<◌, ◌≤◌, ◌^◌, [], 
 ghost use Rattle.std.specs.List.{list_any, IsDistinct};
 ghost use Rattle.indexmap.specs.IndexSet.{insert_key};
 ghost use Rattle.gw_names.specs.Keys.{key_eq};
-ghost use Rattle.gw_entities.specs.KeySets.{settled_keys};
 
-use crate::recent::{Recent, place_in};
+use crate::shared_keys::SharedKeys;
 use gw_names::Key;
 use indexmap::IndexSet;
 use std::alloc::{AllocError, Global};
 use std::marker::Model;
-use std::sync::Arc;
 
 // Where more than one of so many keys are recent, all are settled.
 const PART: usize = 8;
@@ -21,32 +19,27 @@ const LIMIT: usize = 9_223_372_036_854_775_807;
 /// are copied than an eighth of them.
 #[derive(Drop)]
 pub struct KeySet {
-    settled: Option<Settled>,
+    // Those that copies share for long: none comes to them.
+    settled: SharedKeys,
     // Those that came behind the settled ones.
-    recent: Recent,
-}
-
-// Keys that copies share whole. None comes to them.
-#[derive(Drop)]
-pub struct Settled {
-    pub keys: Arc<IndexSet<Key>>,
+    recent: SharedKeys,
 }
 
 impl Model for KeySet {
     ghost use Rattle.std.specs.Prelude.{◌++◌, ◌-◌, ◌<◌, ◌^◌, length, min};
     ghost use Rattle.std.specs.List.{IsDistinct};
     ghost use Rattle.gw_names.specs.Keys.{key_eq};
-    ghost use Rattle.gw_entities.specs.KeySets.{KeyList, settled_keys};
+    ghost use Rattle.gw_entities.specs.KeySets.{KeyList};
 
     ghost Value = { KeyList };
 
     ghost view = { λ s. record {
-      keys = settled_keys s.settled ++ s.recent.keys;
-      room = min s.recent.room (9223372036854775807 - length (settled_keys s.settled ++ s.recent.keys));
+      keys = s.settled.keys ++ s.recent.keys;
+      room = min s.recent.room (9223372036854775807 - length (s.settled.keys ++ s.recent.keys));
     } };
 
-    ghost invariant = { λ s. IsDistinct key_eq (settled_keys s.settled ++ s.recent.keys)
-        × (length (settled_keys s.settled ++ s.recent.keys) < 2 ^ 63) };
+    ghost invariant = { λ s. IsDistinct key_eq (s.settled.keys ++ s.recent.keys)
+        × (length (s.settled.keys ++ s.recent.keys) < 2 ^ 63) };
 }
 
 impl KeySet {
@@ -55,8 +48,8 @@ impl KeySet {
         ensures { result.keys ≡ [] }
     {
         KeySet {
-            settled: None,
-            recent: Recent::new(alloc),
+            settled: SharedKeys::new(alloc),
+            recent: SharedKeys::new(alloc),
         }
     }
 
@@ -67,11 +60,11 @@ impl KeySet {
         ensures within { IfSome result (λ i. i < length self.now.keys) }
         ensures none { IfNone result (list_any (key_eq key.now) self.now.keys ≡ false) }
     {
-        if let Some(index) = settled_place(&self.settled, key) {
+        if let Some(index) = self.settled.place(key) {
             return Some(index);
         }
-        match place_in(self.recent.set(), key) {
-            Some(index) => Some(settled_len(&self.settled) + index),
+        match self.recent.place(key) {
+            Some(index) => Some(self.settled.len() + index),
             None => None,
         }
     }
@@ -83,7 +76,7 @@ impl KeySet {
         ensures bound { result < 2 ^ 63 }
         ensures distinct { IsDistinct key_eq self.now.keys }
     {
-        settled_len(&self.settled) + self.recent.set().len()
+        self.settled.len() + self.recent.len()
     }
 
     /// The key at an index.
@@ -92,11 +85,11 @@ impl KeySet {
         requires { index < length self.now.keys }
         ensures { slice_get self.now.keys index ≡ Some result.now }
     {
-        let settled = settled_len(&self.settled);
+        let settled = self.settled.len();
         if index < settled {
-            settled_at(&self.settled, index)
+            self.settled.at(index)
         } else {
-            &self.recent.set()[index - settled]
+            self.recent.at(index - settled)
         }
     }
 
@@ -119,7 +112,7 @@ impl KeySet {
         ensures keys { self.new.keys ≡ insert_key key_eq self.old.keys key }
         ensures distinct { IsDistinct key_eq self.new.keys }
     {
-        match settled_place(&self.settled, &key) {
+        match self.settled.place(&key) {
             Some(_) => (),
             None => self.recent.insert(key),
         }
@@ -157,15 +150,16 @@ impl KeySet {
     pub fn share(&mut self) -> Result<(), AllocError>
         ensures { self.new.keys ≡ self.old.keys }
     {
-        if self.recent.set().len() > settled_len(&self.settled) / PART {
+        if self.recent.len() > self.settled.len() / PART {
             self.settle()?;
         }
+        self.settled.share()?;
         self.recent.share()
     }
 
     // Where its memory comes from.
     pub(crate) fn allocator(&self) -> Global {
-        *self.recent.set().allocator()
+        self.recent.allocator()
     }
 
     // All keys are settled.
@@ -174,21 +168,19 @@ impl KeySet {
         ensures { self.new.keys ≡ self.old.keys }
     {
         let alloc = self.allocator();
-        let all = self.all(alloc)?;
-        let keys = Arc::new(alloc, all)?;
-        self.settled = Some(Settled { keys });
-        self.recent = Recent::new(alloc);
+        let all = Box::new(alloc, self.all()?)?;
+        self.settled = SharedKeys::of(all);
+        self.recent = SharedKeys::new(alloc);
         Ok(())
     }
 
     // All keys in one set.
-    fn all(&self, alloc: Global) -> Result<IndexSet<Key>, AllocError>
+    fn all(&self) -> Result<IndexSet<Key>, AllocError>
         ensures { IfOk result (λ s. s.keys ≡ self.now.keys) }
     {
-        let mut all = settled_set(&self.settled, alloc)?;
-        let recent = self.recent.set();
-        for index in 0..recent.len() {
-            let key = recent[index].clone()?;
+        let mut all = self.settled.set()?;
+        for index in 0..self.recent.len() {
+            let key = self.recent.at(index).clone()?;
             all.insert(key)?;
         }
         Ok(all)
@@ -198,63 +190,10 @@ impl KeySet {
     pub fn copy(&self) -> Result<KeySet, AllocError>
         ensures { IfOk result (λ s. s.keys ≡ self.now.keys) }
     {
-        let settled = match &self.settled {
-            Some(settled) => Some(Settled {
-                keys: Arc::try_clone(&settled.keys)?,
-            }),
-            None => None,
-        };
-        let recent = self.recent.copy()?;
-        Ok(KeySet { settled, recent })
-    }
-}
-
-// Where a key lies, if it is settled.
-#[inline(always)]
-fn settled_place(settled: &Option<Settled>, key: &Key) -> Option<usize>
-    ensures there { IfSome result (λ i. slice_get (settled_keys settled.now) i ≡ Some key.now) }
-    ensures within { IfSome result (λ i. i < length (settled_keys settled.now)) }
-    ensures none { IfNone result (list_any (key_eq key.now) (settled_keys settled.now) ≡ false) }
-{
-    match settled {
-        Some(settled) => place_in(&settled.keys, key),
-        None => None,
-    }
-}
-
-// How many keys are settled.
-#[inline(always)]
-fn settled_len(settled: &Option<Settled>) -> usize
-    ensures len { result ≡ length (settled_keys settled.now) }
-    ensures bound { result < 2 ^ 63 }
-{
-    match settled {
-        Some(settled) => settled.keys.len(),
-        None => 0,
-    }
-}
-
-// The settled key at an index.
-#[inline(always)]
-fn settled_at(settled: &Option<Settled>, index: usize) -> &Key
-    requires { index < length (settled_keys settled.now) }
-    ensures { slice_get (settled_keys settled.now) index ≡ Some result.now }
-{
-    match settled {
-        Some(settled) => &settled.keys[index],
-        None => unreachable!(),
-    }
-}
-
-// The settled keys in a set that nobody shares.
-fn settled_set(settled: &Option<Settled>, alloc: Global) -> Result<IndexSet<Key>, AllocError>
-    ensures { IfOk result (λ s. s.keys ≡ settled_keys settled.now) }
-{
-    match settled {
-        Some(settled) => {
-            let keys: &IndexSet<Key> = &settled.keys;
-            keys.clone()
-        }
-        None => Ok(IndexSet::new(alloc)),
+        let settled = self.settled.copy()?;
+        Ok(KeySet {
+            settled,
+            recent: self.recent.copy()?,
+        })
     }
 }

@@ -4,4 +4,4 @@ use Rattle.gw_entities.proofs.key_set.KeySet.new.Goals as goal
 
 pub invariant_of-result : goal.invariant_of-result
 unfolding IsDistinct
-invariant_of-result c = rw c.new.ensures (tt, omega arith)
+invariant_of-result c = rw (c.new.ensures, c.new-2.ensures) (tt, omega arith)

@@ -3,7 +3,7 @@ use Rattle.std.specs.List.{find}
 use Rattle.gw_names.specs.declared.key.Key.{Key}
 use Rattle.gw_names.specs.Keys.{key_eq}
 use Rattle.gw_entities.proofs.ComingLaws.{key_same, find_passes}
-use Rattle.gw_entities.proofs.recent.place_in.Goals as goal
+use Rattle.gw_entities.proofs.shared_keys.place_in.Goals as goal
 
 pub returns-in-Some-clause-there : goal.returns-in-Some-clause-there
 returns-in-Some-clause-there c =
