@@ -8,4 +8,5 @@ pub mod Leasts
 pub mod FutureLaws
 pub mod Beside
 mod LinkedLaws
+pub mod Padding
 pub mod AnewLaws

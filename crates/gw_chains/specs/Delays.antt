@@ -1,5 +1,5 @@
 -- How `DelayChains` keeps the delay chains: each beside its key. No public clause cites this module. (Our own.)
-use Rattle.std.specs.Prelude.{◌≡◌, ℕ, List, length, map}
+use Rattle.std.specs.Prelude.{◌≡◌, ℕ, zero, suc, List, [], ◌∷◌, length, map}
 use Rattle.std.specs.List.{IsDistinct, zip}
 use Rattle.gw_names.specs.declared.key.Key.{Key}
 use Rattle.gw_names.specs.Keys.{key_eq}
@@ -10,6 +10,16 @@ use Rattle.gw_chains.specs.Chains.{Chain, delays_of}
 -- who is on each of these chains
 abbrev pub queues_of : List (Chain Transaction) → List (List Transaction)
 queues_of chains = map (λ (c : Chain Transaction). c.items) chains
+
+-- a chain on which nobody waits
+abbrev pub nobody : Chain Transaction
+nobody = record { items = []; room = 0 }
+
+-- so many chains: these, and behind them others on which nobody waits
+abbrev pub padded : ℕ → List (Chain Transaction) → List (Chain Transaction)
+padded zero chains = []
+padded (suc n) [] = nobody ∷ padded n []
+padded (suc n) (c ∷ cs) = c ∷ padded n cs
 
 -- a chain for each key, and how many are on all of them
 pub record AreKept (keys : List Key) (chains : List (Chain Transaction)) (count : ℕ) : Type 0 where

@@ -1,10 +1,10 @@
-ghost use Rattle.std.specs.Prelude.{◌≡◌, ◌<◌, ◌≤◌, ◌+◌, ◌-◌, ◌^◌, [], length, option_copied, Some, None, IfSome, IfOk, OnOk, OnErr};
+ghost use Rattle.std.specs.Prelude.{◌≡◌, ◌<◌, ◌≤◌, ◌+◌, ◌-◌, ◌^◌, ℕ, [], length, max, take, option_copied, Some, None, IfSome, IfOk, OnOk, OnErr};
 ghost use Rattle.gw_entities.specs.Tables.{value_of, with_value, IsPlace};
 ghost use Rattle.gw_meaning.specs.Changes.{lined_up, some_let_in};
 ghost use Rattle.gw_meaning.specs.Machine.{Machine, delay_at, waiting};
 ghost use Rattle.gw_chains.specs.Chains.{delays_of, items_of, room_of, first_of, without_first, with_share};
 ghost use Rattle.gw_chains.specs.Chains.{IsWaitingPlace, HasRoomToLetAllIn};
-ghost use Rattle.gw_chains.specs.Delays.{queues_of};
+ghost use Rattle.gw_chains.specs.Delays.{queues_of, padded};
 
 use crate::chain::PriorityChain;
 use crate::counts::Counts;
@@ -18,25 +18,26 @@ use std::marker::Model;
 #[derive(Drop)]
 pub struct DelayChains {
     keys: KeySet,
-    // The chain of each key.
+    // The chain of each key, but for the last ones while nobody waits on them: where copies share them, these are left out.
     chains: Vec<PriorityChain>,
     // How many wait on all chains.
     count: usize,
 }
 
 impl Model for DelayChains {
-    ghost use Rattle.std.specs.Prelude.{List};
+    ghost use Rattle.std.specs.Prelude.{◌≤◌, List, length};
     ghost use Rattle.std.specs.List.{zip};
     ghost use Rattle.gw_names.specs.declared.key.Key.{Key};
     ghost use Rattle.gw_meaning.specs.declared.transaction.Transaction.{Transaction};
     ghost use Rattle.gw_chains.specs.Chains.{Chain};
-    ghost use Rattle.gw_chains.specs.Delays.{AreKept};
+    ghost use Rattle.gw_chains.specs.Delays.{AreKept, padded};
 
     ghost Value = { List (Key × Chain Transaction) };
 
-    ghost view = { λ d. zip d.keys.keys d.chains.items };
+    ghost view = { λ d. zip d.keys.keys (padded (length d.keys.keys) d.chains.items) };
 
-    ghost invariant = { λ d. AreKept d.keys.keys d.chains.items d.count };
+    ghost invariant = { λ d. AreKept d.keys.keys (padded (length d.keys.keys) d.chains.items) d.count
+        × (length d.chains.items ≤ length d.keys.keys) };
 }
 
 impl DelayChains {
@@ -106,7 +107,11 @@ impl DelayChains {
         let Some(index) = place else {
             return None;
         };
-        Some(&self.chains[index])
+        if index < self.chains.len() {
+            Some(&self.chains[index])
+        } else {
+            None
+        }
     }
 
     /// The first of those who wait for a facility, where it is known where they lie.
@@ -136,6 +141,7 @@ impl DelayChains {
         let Some(index) = self.place(key) else {
             return self.line_up_first(key, x);
         };
+        fill(&mut self.chains, self.keys.len())?;
         let chain = &mut self.chains[index];
         chain.reserve(1)?;
         chain.line_up(x);
@@ -154,6 +160,7 @@ impl DelayChains {
     {
         let own = key.clone()?;
         self.keys.reserve()?;
+        fill(&mut self.chains, self.keys.len())?;
         self.chains.reserve(1)?;
         let mut chain = PriorityChain::new(*self.chains.allocator());
         chain.reserve(1)?;
@@ -175,6 +182,9 @@ impl DelayChains {
         let Some(index) = place else {
             return None;
         };
+        if index >= self.chains.len() {
+            return None;
+        }
         let x = self.chains[index].take_first()?;
         self.count -= 1;
         Some(x)
@@ -195,6 +205,7 @@ impl DelayChains {
         let Some(index) = place else {
             return Ok(());
         };
+        fill(&mut self.chains, self.keys.len())?;
         self.chains[index].reserve(count)
     }
 
@@ -226,6 +237,9 @@ impl DelayChains {
         let Some(index) = place else {
             return;
         };
+        if index >= self.chains.len() {
+            return;
+        }
         let chain = &mut self.chains[index];
         let before = chain.len();
         chain.let_in_some(shares, current, counts);
@@ -238,6 +252,8 @@ impl DelayChains {
         ensures { delays_of self.new ≡ delays_of self.old }
     {
         self.keys.share()?;
+        let count = in_use(&self.chains);
+        self.chains.truncate(count);
         share_all(&mut self.chains)
     }
 
@@ -252,6 +268,35 @@ impl DelayChains {
             count: self.count,
         })
     }
+}
+
+// There are so many of these from now on: nobody waits on further ones.
+fn fill(chains: &mut Vec<PriorityChain>, count: usize) -> Result<(), AllocError>
+    ensures ok { OnOk result (count ≤ length chains.new.items) }
+    ensures long { length chains.new.items ≤ max (length chains.old.items) count }
+    ensures queues { (n : ℕ) → queues_of (padded n chains.new.items) ≡ queues_of (padded n chains.old.items) }
+{
+    let alloc = *chains.allocator();
+    while chains.len() < count {
+        chains.push(PriorityChain::new(alloc))?;
+    }
+    Ok(())
+}
+
+// How many of these there are up to the last on which somebody waits.
+fn in_use(chains: &[PriorityChain]) -> usize
+    ensures within { result ≤ length chains.now }
+    ensures queues { (n : ℕ) → queues_of (padded n (take result chains.now)) ≡ queues_of (padded n chains.now) }
+{
+    let mut count = chains.len();
+    while count > 0 {
+        if chains[count - 1].is_empty() {
+            count -= 1;
+        } else {
+            return count;
+        }
+    }
+    0
 }
 
 // Copies share from now on what these hold.

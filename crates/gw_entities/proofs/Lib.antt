@@ -10,6 +10,7 @@ pub mod Keyed
 pub mod Lookups
 pub mod OwnLaws
 pub mod ParameterLaws
+pub mod Settling
 pub mod Sums
 pub mod TableLaws
 pub mod Ticks

@@ -1,6 +1,7 @@
 ghost use Rattle.std.specs.Prelude.{◌≡◌, is_some, if◌then◌else◌};
 ghost use Rattle.gw_entities.specs.Records.{never_owned, seized, released, facility_anew};
 
+use crate::counted::Counted;
 use crate::level::Level;
 use gw_nums::Clock;
 use std::marker::Model;
@@ -85,12 +86,17 @@ impl Facility {
         self.owner = None;
         self.level.change(0, clock);
     }
+}
 
-    /// Counts anew from a clock on. Whoever owns it goes on.
-    pub fn reset(&mut self, clock: Clock)
-        ensures { self.new ≡ facility_anew clock self.old }
-    {
-        self.captures = 0;
-        self.level.restart(clock);
+impl Counted for Facility {
+    ghost anew = { facility_anew };
+
+    // Whoever owns it goes on.
+    fn anew(self, clock: Clock) -> Facility {
+        Facility {
+            captures: 0,
+            level: self.level.restarted(clock),
+            ..self
+        }
     }
 }

@@ -1,35 +1,45 @@
 ghost use Rattle.std.specs.Prelude.{◌≡◌, ◌<◌, ◌≤◌, ◌^◌, [], Some, false, length, slice_get, IfSome, IfNone, IfOk, OnOk, OnErr};
 ghost use Rattle.std.specs.List.{list_any, IsDistinct};
-ghost use Rattle.indexmap.specs.IndexSet.{insert_key, spare};
+ghost use Rattle.indexmap.specs.IndexSet.{insert_key};
 ghost use Rattle.gw_names.specs.Keys.{key_eq};
 
+use crate::shared_keys::SharedKeys;
 use gw_names::Key;
 use indexmap::IndexSet;
 use std::alloc::{AllocError, Global};
 use std::marker::Model;
-use std::mem;
-use std::sync::Arc;
 
-/// Keys in the order of coming, none of them twice, found by their hash. Copies share them, until one of them takes a
-/// further key.
+// Where more than one of so many keys are recent, all are settled.
+const PART: usize = 8;
+
+// How many keys there may be at the most, 2^63 - 1.
+const LIMIT: usize = 9_223_372_036_854_775_807;
+
+/// Keys in the order of coming, none of them twice, found by their hash. Copies share them: for a further key no more
+/// are copied than an eighth of them.
 #[derive(Drop)]
 pub struct KeySet {
-    keys: Keys,
-}
-
-// Keys that copies may share are not changed any more. The others are the set's own.
-#[derive(Drop)]
-enum Keys {
-    Own(IndexSet<Key>),
-    Shared(Arc<IndexSet<Key>>),
+    // Those that copies share for long: none comes to them.
+    settled: SharedKeys,
+    // Those that came behind the settled ones.
+    recent: SharedKeys,
 }
 
 impl Model for KeySet {
-    ghost use Rattle.gw_entities.specs.KeySets.{KeyList, keys_in, room_in};
+    ghost use Rattle.std.specs.Prelude.{◌++◌, ◌-◌, ◌<◌, ◌^◌, length, min};
+    ghost use Rattle.std.specs.List.{IsDistinct};
+    ghost use Rattle.gw_names.specs.Keys.{key_eq};
+    ghost use Rattle.gw_entities.specs.KeySets.{KeyList};
 
     ghost Value = { KeyList };
 
-    ghost view = { λ s. record { keys = keys_in s.keys; room = room_in s.keys } };
+    ghost view = { λ s. record {
+      keys = s.settled.keys ++ s.recent.keys;
+      room = min s.recent.room (9223372036854775807 - length (s.settled.keys ++ s.recent.keys));
+    } };
+
+    ghost invariant = { λ s. IsDistinct key_eq (s.settled.keys ++ s.recent.keys)
+        × (length (s.settled.keys ++ s.recent.keys) < 2 ^ 63) };
 }
 
 impl KeySet {
@@ -38,7 +48,8 @@ impl KeySet {
         ensures { result.keys ≡ [] }
     {
         KeySet {
-            keys: Keys::Own(IndexSet::new(alloc)),
+            settled: SharedKeys::new(alloc),
+            recent: SharedKeys::new(alloc),
         }
     }
 
@@ -49,8 +60,11 @@ impl KeySet {
         ensures within { IfSome result (λ i. i < length self.now.keys) }
         ensures none { IfNone result (list_any (key_eq key.now) self.now.keys ≡ false) }
     {
-        match self.set().get_full(key) {
-            Some((index, _)) => Some(index),
+        if let Some(index) = self.settled.place(key) {
+            return Some(index);
+        }
+        match self.recent.place(key) {
+            Some(index) => Some(self.settled.len() + index),
             None => None,
         }
     }
@@ -62,7 +76,7 @@ impl KeySet {
         ensures bound { result < 2 ^ 63 }
         ensures distinct { IsDistinct key_eq self.now.keys }
     {
-        self.set().len()
+        self.settled.len() + self.recent.len()
     }
 
     /// The key at an index.
@@ -71,17 +85,11 @@ impl KeySet {
         requires { index < length self.now.keys }
         ensures { slice_get self.now.keys index ≡ Some result.now }
     {
-        &self.set()[index]
-    }
-
-    // The set of them.
-    #[inline(always)]
-    fn set(&self) -> &IndexSet<Key>
-        ensures { result.now.keys ≡ self.now.keys }
-    {
-        match &self.keys {
-            Keys::Own(set) => set,
-            Keys::Shared(shared) => shared,
+        let settled = self.settled.len();
+        if index < settled {
+            self.settled.at(index)
+        } else {
+            self.recent.at(index - settled)
         }
     }
 
@@ -92,14 +100,10 @@ impl KeySet {
         ensures keys { self.new.keys ≡ self.old.keys }
         ensures room { self.old.room ≤ self.new.room }
     {
-        match &mut self.keys {
-            Keys::Own(set) => set.reserve(1),
-            Keys::Shared(shared) => {
-                let own = with_room(shared)?;
-                self.keys = Keys::Own(own);
-                Ok(())
-            }
+        if self.len() == LIMIT {
+            return Err(AllocError);
         }
+        self.recent.reserve()
     }
 
     /// A key comes behind the others, unless it is there.
@@ -108,12 +112,9 @@ impl KeySet {
         ensures keys { self.new.keys ≡ insert_key key_eq self.old.keys key }
         ensures distinct { IsDistinct key_eq self.new.keys }
     {
-        let Keys::Own(set) = &mut self.keys else {
-            unreachable!()
-        };
-        match set.insert(key) {
-            Ok(_) => (),
-            Err(_) => unreachable!(),
+        match self.settled.place(&key) {
+            Some(_) => (),
+            None => self.recent.insert(key),
         }
     }
 
@@ -149,44 +150,50 @@ impl KeySet {
     pub fn share(&mut self) -> Result<(), AllocError>
         ensures { self.new.keys ≡ self.old.keys }
     {
-        let alloc = *self.set().allocator();
-        match mem::replace(&mut self.keys, Keys::Own(IndexSet::new(alloc))) {
-            Keys::Own(set) => match Arc::new(alloc, set) {
-                Ok(shared) => {
-                    self.keys = Keys::Shared(shared);
-                    Ok(())
-                }
-                Err(failed) => {
-                    self.keys = Keys::Own(failed.value);
-                    Err(AllocError)
-                }
-            },
-            Keys::Shared(shared) => {
-                self.keys = Keys::Shared(shared);
-                Ok(())
-            }
+        if self.recent.len() > self.settled.len() / PART {
+            self.settle()?;
         }
+        self.settled.share()?;
+        self.recent.share()
+    }
+
+    // Where its memory comes from.
+    pub(crate) fn allocator(&self) -> Global {
+        self.recent.allocator()
+    }
+
+    // All keys are settled.
+    #[cold]
+    fn settle(&mut self) -> Result<(), AllocError>
+        ensures { self.new.keys ≡ self.old.keys }
+    {
+        let alloc = self.allocator();
+        let all = Box::new(alloc, self.all()?)?;
+        self.settled = SharedKeys::of(all);
+        self.recent = SharedKeys::new(alloc);
+        Ok(())
+    }
+
+    // All keys in one set.
+    fn all(&self) -> Result<IndexSet<Key>, AllocError>
+        ensures { IfOk result (λ s. s.keys ≡ self.now.keys) }
+    {
+        let mut all = self.settled.set()?;
+        for index in 0..self.recent.len() {
+            let key = self.recent.at(index).clone()?;
+            all.insert(key)?;
+        }
+        Ok(all)
     }
 
     /// The same keys.
     pub fn copy(&self) -> Result<KeySet, AllocError>
         ensures { IfOk result (λ s. s.keys ≡ self.now.keys) }
     {
-        let keys = match &self.keys {
-            Keys::Own(set) => Keys::Own(set.clone()?),
-            Keys::Shared(shared) => Keys::Shared(Arc::try_clone(shared)?),
-        };
-        Ok(KeySet { keys })
+        let settled = self.settled.copy()?;
+        Ok(KeySet {
+            settled,
+            recent: self.recent.copy()?,
+        })
     }
-}
-
-// The same keys, with room for one more.
-#[cold]
-fn with_room(keys: &IndexSet<Key>) -> Result<IndexSet<Key>, AllocError>
-    ensures keys { IfOk result (λ s. s.keys ≡ keys.now.keys) }
-    ensures room { IfOk result (λ s. 0 < spare s) }
-{
-    let mut own = keys.clone()?;
-    own.reserve(1)?;
-    Ok(own)
 }

@@ -70,10 +70,13 @@ impl Level {
     }
 
     /// The content as it is, its sum from a clock on.
-    pub fn restart(&mut self, clock: Clock)
-        ensures { self.new ≡ restarted clock self.old }
+    pub fn restarted(self, clock: Clock) -> Level
+        ensures { result ≡ restarted clock self }
     {
-        self.sum = 0;
-        self.at = clock;
+        Level {
+            content: self.content,
+            sum: 0,
+            at: clock,
+        }
     }
 }

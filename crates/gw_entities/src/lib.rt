@@ -16,6 +16,7 @@ mod level;
 mod own_list;
 mod parameters;
 mod queue;
+mod shared_keys;
 mod storage;
 mod tables;
 mod values;

@@ -9,6 +9,9 @@ use gw_shared::SharedList;
 use std::alloc::{AllocError, Global};
 use std::marker::Model;
 
+// So many keys stay where all entries are forgotten.
+const FEW: usize = 32;
+
 /// What transactions have of their own, by key: in order of the numbers of their transactions, and of each transaction
 /// in order of coming. A transaction is found by halves. Copies share what did not change.
 #[derive(Drop)]
@@ -199,11 +202,14 @@ impl<V: Copy> OwnList<V> {
         Ok(())
     }
 
-    // Forgets all.
+    // Forgets all, the keys too where there are many.
     pub fn clear(&mut self)
         ensures { self.new.entries ≡ [] }
     {
         self.items.clear();
+        if self.keys.len() > FEW {
+            self.keys = KeySet::new(self.keys.allocator());
+        }
     }
 
     // Copies share all from now on.

@@ -1,6 +1,7 @@
 ghost use Rattle.std.specs.Prelude.{◌≡◌, ◌≤◌};
 ghost use Rattle.gw_entities.specs.Records.{no_line, queued, departed, queue_anew};
 
+use crate::counted::Counted;
 use crate::level::Level;
 use gw_nums::Clock;
 use std::marker::Model;
@@ -101,14 +102,18 @@ impl Queue {
         let content = self.level.content().saturating_sub(units);
         self.level.change(content, clock);
     }
+}
 
-    /// Counts anew from a clock on. What stands in it stays.
-    pub fn reset(&mut self, clock: Clock)
-        ensures { self.new ≡ queue_anew clock self.old }
-    {
-        self.entries = 0;
-        self.zero_entries = 0;
-        self.greatest = self.level.content();
-        self.level.restart(clock);
+impl Counted for Queue {
+    ghost anew = { queue_anew };
+
+    // What stands in it stays.
+    fn anew(self, clock: Clock) -> Queue {
+        Queue {
+            entries: 0,
+            zero_entries: 0,
+            greatest: self.level.content(),
+            level: self.level.restarted(clock),
+        }
     }
 }

@@ -1,6 +1,7 @@
 ghost use Rattle.std.specs.Prelude.{◌≡◌, ◌≤◌};
 ghost use Rattle.gw_entities.specs.Records.{never_used, entered, left, storage_anew};
 
+use crate::counted::Counted;
 use crate::level::Level;
 use gw_nums::Clock;
 use std::marker::Model;
@@ -91,14 +92,18 @@ impl Storage {
         self.least = self.least.min(content);
         self.level.change(content, clock);
     }
+}
 
-    /// Counts anew from a clock on. What is in use stays.
-    pub fn reset(&mut self, clock: Clock)
-        ensures { self.new ≡ storage_anew clock self.old }
-    {
-        self.entries = 0;
-        self.least = self.level.content();
-        self.greatest = self.level.content();
-        self.level.restart(clock);
+impl Counted for Storage {
+    ghost anew = { storage_anew };
+
+    // What is in use stays.
+    fn anew(self, clock: Clock) -> Storage {
+        Storage {
+            entries: 0,
+            least: self.level.content(),
+            greatest: self.level.content(),
+            level: self.level.restarted(clock),
+        }
     }
 }

@@ -1,8 +1,8 @@
-use Rattle.std.proofs.Common.{◌≡◌, ◌+◌, ◌<◌, None, Some, length, refl, sym, ap, subst, ◌∙◌, arith, rules}
+use Rattle.std.proofs.Common.{◌≡◌, ◌+◌, ◌<◌, None, Some, length, refl, ap, subst, ◌∙◌, arith, rules}
 use Rattle.std.specs.Prelude.{slice_get}
 use Rattle.gw_meaning.specs.Changes.{count_anew}
 use Rattle.gw_table.specs.Pairs.{with_value}
-use Rattle.gw_chains.proofs.AnewLaws.{partly, has_value, set_next, next_there, one_is_left, all_done}
+use Rattle.gw_chains.proofs.AnewLaws.{has_value, set_next, next_there, one_is_left}
 use Rattle.gw_chains.proofs.counts.Counts.count_anew.Goals.{in-Some, in_default}
 use Rattle.gw_chains.proofs.counts.Counts.count_anew.Goals as goal
 

@@ -1,16 +1,18 @@
 use Rattle.std.proofs.Common.{ap, ◌∙◌}
 use Rattle.gw_chains.specs.Delays.{queues_of}
-use Rattle.gw_chains.proofs.Beside.{same_delays, same_kept}
+use Rattle.gw_chains.proofs.Padding.{copied}
 use Rattle.gw_chains.proofs.delays.DelayChains.copy.Goals as goal
 
 pub invariant_of-result : goal.invariant_of-result
 invariant_of-result c =
     let d = c.self.inside in
-    same_kept d.keys.keys c.in_ok-keys.keys.keys d.chains.items c.in_ok-copy_chains.field-0.items d.count c.in_ok-keys.ensures
-    (c.in_ok-copy_chains.ensures ∙ ap queues_of c.deref.ensures.value) c.self.invariant
+    rw c.in_ok-keys.ensures
+    (copied d.keys.keys d.chains.items c.in_ok-copy_chains.field-0.items d.count
+    (c.in_ok-copy_chains.ensures ∙ ap queues_of c.deref.ensures.value) c.self.invariant).kept
 
 pub returns : goal.returns
 returns c =
     let d = c.self.inside in
     rw (c.in_ok-keys.ensures, ← c.self.view_is)
-    (same_delays d.keys.keys c.in_ok-copy_chains.field-0.items d.chains.items (c.in_ok-copy_chains.ensures ∙ ap queues_of c.deref.ensures.value))
+    (copied d.keys.keys d.chains.items c.in_ok-copy_chains.field-0.items d.count
+    (c.in_ok-copy_chains.ensures ∙ ap queues_of c.deref.ensures.value) c.self.invariant).delays
