@@ -5,12 +5,12 @@ ghost use Rattle.gw_expr.specs.Worlds.{Says, Evaluates, Comes, in_place};
 
 use crate::atom::Atom;
 use crate::attribute::{Sna, Subject};
-use crate::halt::Halt;
-use crate::stop::Stop;
 use crate::expr::{Expr, Node};
 use crate::few_values::{FEW, FewValues};
 use crate::function::Function;
+use crate::halt::Halt;
 use crate::many_values::ManyValues;
+use crate::stop::Stop;
 use crate::token::Token;
 use crate::world::{Defs, World};
 use gw_names::{Class, Name};
@@ -56,12 +56,7 @@ pub fn eval_function<D: Defs, W: World>(
 #[inline(always)]
 #[cycle(nested)]
 #[tactic(auto, unfolding(crate::specs::Evaluation::value_by), using(crate::specs::Worlds::stops))]
-fn term<D: Defs, W: World>(
-    defs: &D,
-    world: &mut W,
-    depth: u32,
-    operand: &Expr,
-) -> Result<Val, Halt>
+fn term<D: Defs, W: World>(defs: &D, world: &mut W, depth: u32, operand: &Expr) -> Result<Val, Halt>
     ensures { Evaluates (Says (D.variable_of defs.now) (D.function_of defs.now)) W.replies
         (value_by (definitions_within depth) operand.now) result world.old world.new }
 {
@@ -77,12 +72,7 @@ fn term<D: Defs, W: World>(
 #[inline(always)]
 #[cycle(nested)]
 #[tactic(auto, unfolding(crate::specs::Evaluation::value_of_atom))]
-fn of_atom<D: Defs, W: World>(
-    defs: &D,
-    world: &mut W,
-    depth: u32,
-    atom: &Atom,
-) -> Result<Val, Halt>
+fn of_atom<D: Defs, W: World>(defs: &D, world: &mut W, depth: u32, atom: &Atom) -> Result<Val, Halt>
     ensures { Evaluates (Says (D.variable_of defs.now) (D.function_of defs.now)) W.replies
         (value_of_atom (definitions_within depth) atom.now) result world.old world.new }
 {
@@ -104,12 +94,7 @@ fn of_atom<D: Defs, W: World>(
 // The value of an operand that is no expression, where a VARIABLE or a FUNCTION evaluates it.
 #[inline(never)]
 #[cycle(nested)]
-fn alone<D: Defs, W: World>(
-    defs: &D,
-    world: &mut W,
-    depth: u32,
-    atom: &Atom,
-) -> Result<Val, Halt>
+fn alone<D: Defs, W: World>(defs: &D, world: &mut W, depth: u32, atom: &Atom) -> Result<Val, Halt>
     ensures { Evaluates (Says (D.variable_of defs.now) (D.function_of defs.now)) W.replies
         (value_of_atom (definitions_within depth) atom.now) result world.old world.new }
 {

@@ -7,9 +7,9 @@ ghost use Rattle.gw_expr.specs.Term.{Term};
 ghost use Rattle.gw_expr.specs.Worlds.{with_reply};
 
 use crate::attribute::{Sna, Subject};
-use crate::halt::Halt;
 use crate::expr::Expr;
 use crate::function::Function;
+use crate::halt::Halt;
 use gw_names::Name;
 use gw_nums::{Millionths, Val};
 
