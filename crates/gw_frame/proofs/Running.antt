@@ -21,14 +21,14 @@ pub record IsLast (t : Listing) (seed n : ℕ) (v : Machine) : Type 0 where
   pub before : Machine
   pub there : run t seed n ≡ Ok before
   pub goes : step t seed before ≡ Ok v
-  pub after : IsAfter t before v
+  pub after : IsAfter t seed before v
 
 module _ (t : Listing) (seed : ℕ) where
   pub last_step : (n : ℕ) (v : Machine) → run t seed (suc n) ≡ Ok v → IsLast t seed n v
   last_step n v is =
       let before = run_before t seed n v is in
       let goes : step t seed before.0 ≡ Ok v = sym (run_on t seed n before.0 before.1) ∙ is in
-      record { before = before.0; there = before.1; goes = goes; after = ((step_decides t seed before.0).runs v goes).0 }
+      record { before = before.0; there = before.1; goes = goes; after = (step_decides t seed before.0 v goes).0 }
 
   pub over_run : (P : ℕ → Machine → Type 0) → P 0 zero_state →
       ((n : ℕ) (s : Machine) (m : Move) (streams : List Stream) → run t seed n ≡ Ok s → IsDecided t s m → P n s → P (suc n) (decided s m streams)) →
@@ -66,10 +66,10 @@ module _ (t : Listing) (seed : ℕ) where
   seven_streams zero s is = let same : zero_state ≡ s = cc in ap (λ (v : Machine). length v.streams) (sym same)
   seven_streams (suc n) v is =
       let last = last_step n v is in
-      (((step_decides t seed last.before).runs v last.goes).2 (seven_streams n last.before last.there)).0
+      ((step_decides t seed last.before v last.goes).2 (seven_streams n last.before last.there)).0
 
 pub seed_is_read : SeedIsReadAtFirstDraws
 seed_is_read t seed n s v there is =
     let goes : step t seed s ≡ Ok v = sym (run_on t seed n s there) ∙ is in
     let read : reads t seed n ≡ items_of t seed (step_prog s) = reads_there t seed n s there ∙ step_reads t seed s v goes in
-    ap uses_seed read ∙ (((step_decides t seed s).runs v goes).2 (seven_streams t seed n s there)).1
+    ap uses_seed read ∙ ((step_decides t seed s v goes).2 (seven_streams t seed n s there)).1

@@ -26,7 +26,7 @@ use Rattle.gw_meaning.specs.Watching.{transactions_of}
 use Rattle.gw_laws.specs.Chain.{ChainIsInOrder, ChainIsFirstInFirstOut, IsFirstInFirstOut, numbers_of, is_in}
 use Rattle.gw_frame.proofs.Decided.{step_decides}
 use Rattle.gw_frame.proofs.Known.{IsDecided}
-use Rattle.gw_frame.proofs.Keeps.{all_with}
+use Rattle.gw_frame.proofs.Lawful.{all_with}
 use Rattle.gw_frame.proofs.Moves.{settled, settled_is, current_behind, with_active_has, entered_has, picked_has}
 use Rattle.gw_frame.proofs.Running.{over_run}
 use Rattle.gw_laws.proofs.Entries.{Each, at_has, with_has}
@@ -374,7 +374,7 @@ module _ (priority : ℤ) where
 
 pub chain_is_first_in_first_out : ChainIsFirstInFirstOut
 chain_is_first_in_first_out t seed n s v well within there is priority =
-    let after = ((step_decides t seed s).runs v (sym (run_on t seed n s there) ∙ is)).0 in
+    let after = (step_decides t seed s v (sym (run_on t seed n s there) ∙ is)).0 in
     let P : Machine → Type 0 = λ w. IsFirstInFirstOut (numbers_of priority s.current) (numbers_of priority w.current) in
     let room = all_within t seed n s well within there in
     subst P (sym after.is) (decided_turn priority t s after.move (omega (arith, room.next, within, well.greatest_limit)) after.is_decided

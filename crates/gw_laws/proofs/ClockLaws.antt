@@ -15,7 +15,7 @@ use Rattle.gw_meaning.specs.Listing.{Listing}
 use Rattle.gw_meaning.specs.Machine.{Machine}
 use Rattle.gw_meaning.specs.Changes.{Making, made, all_made, making_of, fated, refused, is_due, moved, watching}
 use Rattle.gw_meaning.specs.Step.{run, sooner, least_time}
-use Rattle.gw_frame.proofs.Keeps.{all_with}
+use Rattle.gw_frame.proofs.Lawful.{all_with}
 use Rattle.gw_frame.proofs.Known.{IsComing, IsDecidedFate, IsDecided}
 use Rattle.gw_frame.proofs.Moves.{settled_is, with_active_has, entered_has, picked_has}
 use Rattle.gw_frame.proofs.Running.{over_run, over_rest}

@@ -23,7 +23,7 @@ use Rattle.gw_meaning.specs.Changes.{all_lined_up, crossed, placed, copied, one_
 use Rattle.gw_meaning.proofs.Chains.{IsOrdered, ordered_all_lined}
 use Rattle.gw_meaning.proofs.Programs.{run_on}
 use Rattle.gw_frame.proofs.Decided.{is_decided}
-use Rattle.gw_frame.proofs.Keeps.{all_with}
+use Rattle.gw_frame.proofs.Lawful.{all_with}
 use Rattle.gw_frame.proofs.Known.{IsDecidedFate, IsDecided}
 use Rattle.gw_frame.proofs.Moves.{settled, all_copied_keep, AfterCopying, all_copied_is}
 use Rattle.gw_laws.specs.Chain.{numbers_of}

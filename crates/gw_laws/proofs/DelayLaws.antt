@@ -98,7 +98,7 @@ module _ (priority : ℤ) (q : Key) where
 
 pub delays_are_first_in_first_out : DelaysAreFirstInFirstOut
 delays_are_first_in_first_out t seed n s v well within there is key priority facility =
-    let after = ((step_decides t seed s).runs v (sym (run_on t seed n s there) ∙ is)).0 in
+    let after = (step_decides t seed s v (sym (run_on t seed n s there) ∙ is)).0 in
     let chained = all_chained t seed n s there in
     subst (TakesTurns priority key s) (sym after.is)
     (moved_turn priority key t s after.move facility after.is_decided (all_numbered t seed well n s there within) (λ other. delay_ordered s other chained))

@@ -19,7 +19,7 @@ use Rattle.gw_meaning.specs.Machine.{Machine}
 use Rattle.gw_meaning.specs.Changes.{Making, made, all_made, making_of, newcomer, placed, marked, is_due, refused, moved, watching}
 use Rattle.gw_meaning.proofs.Programs.{run_on}
 use Rattle.gw_frame.proofs.Decided.{step_decides}
-use Rattle.gw_frame.proofs.Keeps.{all_with}
+use Rattle.gw_frame.proofs.Lawful.{all_with}
 use Rattle.gw_frame.proofs.Known.{IsDecided}
 use Rattle.gw_frame.proofs.Moves.{settled, settled_is, marked_same, with_active_has, entered_has, picked_has}
 use Rattle.gw_laws.specs.Chain.{is_in, KeepPlaces, numbers_coming, FutureKeepsItsOrder, NobodyLeavesBeforeHisTime}
@@ -168,7 +168,7 @@ module _ (s : Machine) (h : IsNumbered s) where
 
 pub future_keeps_its_order : FutureKeepsItsOrder
 future_keeps_its_order t seed n s v well within there is =
-    let after = ((step_decides t seed s).runs v (sym (run_on t seed n s there) ∙ is)).0 in
+    let after = (step_decides t seed s v (sym (run_on t seed n s there) ∙ is)).0 in
     let h = all_numbered t seed well n s there within in
     let room = all_within t seed n s well within there in
     subst (λ (w : Machine). Keeps s h w.future) (sym after.is)
@@ -234,6 +234,6 @@ module _ (e : Event) where
 
 pub nobody_leaves_before_his_time : NobodyLeavesBeforeHisTime
 nobody_leaves_before_his_time t seed n s v there is none e stands =
-    let after = ((step_decides t seed s).runs v (sym (run_on t seed n s there) ∙ is)).0 in
+    let after = (step_decides t seed s v (sym (run_on t seed n s there) ∙ is)).0 in
     subst (StaysOrIsDue e) (sym after.is) (moved_there e t s after.move after.is_decided
     (no_clear t s after.move after.is_decided none) stands)

@@ -24,8 +24,6 @@ pub mod FacilityLaws
 pub mod QueueLaws
 pub mod StorageLaws
 pub mod ShareLaws
-pub mod Trying
-pub mod Attempts
 pub mod EndLaws
 pub mod PickLaws
 pub mod Tried

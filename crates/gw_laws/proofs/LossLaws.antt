@@ -97,7 +97,7 @@ module _ (k : ℕ) where
 
 pub only_the_active_goes : OnlyTheActiveGoes
 only_the_active_goes t seed n s v there is none k here =
-    let after = ((step_decides t seed s).runs v (sym (run_on t seed n s there) ∙ is)).0 in
+    let after = (step_decides t seed s v (sym (run_on t seed n s there) ∙ is)).0 in
     let on : LivesOn k s v = subst (LivesOn k s) (sym after.is)
     (woken_lives k (written s after.move) s (moved s after.move) (moved_lives k t s after.move after.is_decided
     (no_clear t s after.move after.is_decided none) (here_lives k s here))) in

@@ -154,7 +154,7 @@ module _ (q : Key) where
 
 pub first_takes_over : FirstTakesOver
 first_takes_over t seed n s v there is none key facility =
-    let after = ((step_decides t seed s).runs v (sym (run_on t seed n s there) ∙ is)).0 in
+    let after = (step_decides t seed s v (sym (run_on t seed n s there) ∙ is)).0 in
     subst (LetsIn key s) (sym after.is)
     (woken_lets key (written s after.move) s (moved s after.move) after.streams (moved_lets key t s after.move facility after.is_decided
     (no_clear t s after.move after.is_decided none) (all_bound t seed n s there)))

@@ -201,7 +201,7 @@ module _ (priority : ℤ) where
 
 pub who_waits_keeps_his_place : WhoWaitsKeepsHisPlace
 who_waits_keeps_his_place t seed n s v well within there is key priority =
-    let after = ((step_decides t seed s).runs v (sym (run_on t seed n s there) ∙ is)).0 in
+    let after = (step_decides t seed s v (sym (run_on t seed n s there) ∙ is)).0 in
     let chained = all_chained t seed n s there in
     subst (KeepsPlaces priority key s) (sym after.is)
     (moved_places priority key t s after.move after.is_decided (all_numbered t seed well n s there within) (λ other. delay_ordered s other chained))
@@ -297,7 +297,7 @@ module _ (q : Key) (x : Transaction) (way : IsBound x) where
 
 pub who_leaves_is_let_in : WhoLeavesIsLetIn
 who_leaves_is_let_in t seed n s v there is none key x waits =
-    let after = ((step_decides t seed s).runs v (sym (run_on t seed n s there) ∙ is)).0 in
+    let after = (step_decides t seed s v (sym (run_on t seed n s there) ∙ is)).0 in
     let way : IsBound x =
     All-contains IsBound (delay_at s.delays key) x
     (All-from_recursion IsBound (delay_at s.delays key) (delay_bound s key (all_bound t seed n s there))) waits in

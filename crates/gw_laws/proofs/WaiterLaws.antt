@@ -300,7 +300,7 @@ was_woken s m streams w apart there gone = elim (cases_Bool (is_woken (written s
 
 pub woken_in_order : WokenInOrder
 woken_in_order t seed n s v there is none w u front equal gone other =
-    let after = ((step_decides t seed s).runs v (sym (run_on t seed n s there) ∙ is)).0 in
+    let after = (step_decides t seed s v (sym (run_on t seed n s there) ∙ is)).0 in
     let m = after.move in
     let apart = no_clear t s m after.is_decided none in
     let P : Machine → Type 0 = λ z. (Waits z w → ⊥) → (Waits z u → ⊥) → StandsInFront z.current w.transaction u.transaction in

@@ -50,7 +50,7 @@ use Rattle.gw_meaning.specs.Machine.{Machine, UserChain, zero_state, count_at, d
 use Rattle.gw_meaning.specs.Questions.{Answer, ask, result_of}
 use Rattle.gw_meaning.specs.Evaluation.{Eval, gives, ends_with, asks, ◌~>◌, stops_if, in_range, amount, numbered, named, subject_prog, defined_prog, units_left, left_prog, counted, block_count, owned, one_if, value_held, parameter_value, value_there, entity_value, table_value, attribute_prog, reply_prog, evaluated, entity_watched, defined_watched, counts_of, counts_watched, watched_prog, watched_by, traced, value_traced}
 use Rattle.gw_meaning.specs.Changes.{placed, all_copied, written_in, Making, made, maybe_made, all_made, making_of, deed_shares, let_in, one_let_in, some_let_in, changed, entering, refused, watching, with_active, moved, crossing, crossings, written_by, written_where, written, is_woken, decided}
-use Rattle.gw_meaning.specs.Step.{for_one, holds, test_prog, block_prog, meet_prog, decide, run}
+use Rattle.gw_meaning.specs.Step.{for_one, holds, test_prog, block_prog, decide, run}
 use Rattle.gw_meaning.proofs.Traces as alone
 use Rattle.gw_meaning.proofs.Programs.{bind_gives, bind_ends}
 use Rattle.gw_frame.proofs.Moves.{settled, settled_is, marked_same, still_active, all_copied_keep, unlink_is, with_active_has, picked_has}
@@ -66,7 +66,7 @@ use Rattle.gw_laws.proofs.Crowd.{one, many_has, active_crowd}
 use Rattle.gw_laws.proofs.NumberLaws.{has_number, IsNumbered, all_numbered}
 use Rattle.gw_laws.proofs.OwnParameterLaws.{moved_elsewhere}
 use Rattle.gw_laws.proofs.WaiterLaws.{Stands, stands_of, contains_of, stands_transactions, all_stands, who_comes}
-use Rattle.gw_laws.proofs.GateLaws.{kept_of, SameEntity, KeptEntity, moved_entity, moved_kept, with_has, unread_unwritten, IsRefusedAt, refused_at, IfWatches, passes_or, one_of, all_wait_on}
+use Rattle.gw_laws.proofs.GateLaws.{kept_of, SameEntity, KeptEntity, moved_entity, moved_kept, with_has, unread_unwritten, IsRefusedAt, refused_at, IfWatches, passes_or, tried_here, all_wait_on}
 use Rattle.gw_laws.proofs.Anew.{count_reset, no_reset_decided}
 use Rattle.gw_laws.specs.Anew.{Resets, Clears, NoneBetween}
 use Rattle.gw_meaning.specs.declared.statement.Command.TheVariants as commands
@@ -674,15 +674,12 @@ AtTest resets t seed s w =
     × Came resets t seed s (for_one s w.transaction) w.read (operands.value_of second) y
 
 test_refused : (resets : Bool) (t : Listing) (seed : ℕ) (s : Machine) (read : List Watched) (r : IsRefusedAt t seed s read) →
-    AtTest resets t seed s (record { transaction = r.x; read = read })
+    AtTest resets t seed s (record { transaction = r.who; read = read })
 test_refused resets t seed s read r id b first second goes there verb one' two =
-    let same : r.id ≡ id = one_of r.id id (sym r.goes ∙ goes) in
-    let at : block_at t r.id ≡ Some b = ap (block_at t) same ∙ there in
-    let tries : result_of t seed (meet_prog s r.x r.id (Some b) r.before) ≡ Ok (moves.Watch read, r.after) =
-    subst (λ o. result_of t seed (meet_prog s r.x r.id o r.before) ≡ Ok (moves.Watch read, r.after)) at r.tries in
-    let tests : result_of t seed (block_prog s r.x r.id b blocks.Test r.before) ≡ Ok (moves.Watch read, r.after) =
-    subst (λ v. result_of t seed (block_prog s r.x r.id b v r.before) ≡ Ok (moves.Watch read, r.after)) verb tries in
-    let q = for_one s r.x in
+    let tries = tried_here t seed s (moves.Watch read) r id b goes there in
+    let tests : result_of t seed (block_prog s r.who r.id b blocks.Test r.before) ≡ Ok (moves.Watch read, r.after) =
+    subst (λ v. result_of t seed (block_prog s r.who r.id b v r.before) ≡ Ok (moves.Watch read, r.after)) verb tries in
+    let q = for_one s r.who in
     let left' : result_of t seed (test_prog s q r.id b.auxiliary (Some first) (operand b B) (operand b C) r.before) ≡ Ok (moves.Watch read, r.after) =
     subst (λ o. result_of t seed (test_prog s q r.id b.auxiliary o (operand b B) (operand b C) r.before) ≡ Ok (moves.Watch read, r.after)) one' tests in
     let both : result_of t seed (test_prog s q r.id b.auxiliary (Some first) (Some second) (operand b C) r.before) ≡ Ok (moves.Watch read, r.after) =
@@ -731,7 +728,7 @@ Tested resets t seed s m w = AtTest resets t seed s w × ((Clears m → ⊥) →
 coming_tested : (resets : Bool) (t : Listing) (seed : ℕ) (s : Machine) (m : Move) → IfWatches (IsRefusedAt t seed s) m →
     AllByRecursion (Tested resets t seed s m) (who_comes m s.active)
 coming_tested resets t seed s (moves.Watch read) r =
-    let w : Waiter = record { transaction = r.x; read = read } in
+    let w : Waiter = record { transaction = r.who; read = read } in
     let own : OwnStays s (moves.Watch read) w = λ key.
     with_active_has (λ v. parameter_at v.parameters w.transaction.number key ≡ parameter_at s.parameters w.transaction.number key) s.active
     (λ x. watching s x read) s refl (λ x is. refl) in
