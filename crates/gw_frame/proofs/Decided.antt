@@ -34,7 +34,7 @@ use Rattle.gw_entities.specs.Comings.{came}
 use Rattle.gw_meaning.specs.Entities.{facility_at, line_at, savevalue_at}
 use Rattle.gw_meaning.specs.Machine.{Machine, raised, live, delay_at, user_chain_at}
 use Rattle.gw_meaning.specs.Questions.{ask, result_of}
-use Rattle.gw_meaning.specs.Evaluation.{Eval, named, owned, millionths}
+use Rattle.gw_meaning.specs.Evaluation.{asks, Eval, named, owned, millionths}
 use Rattle.gw_meaning.specs.Step.{for_none, for_one, arrival_at, arrival_in_time, arrival_prog, first_of_generate, first_of, first_arrival, with_arrival, prime_prog, arrivals_prog, first_arrivals_prog, start_prog, command_prog, generate_prog, delay_of, advance_prog, terminate_prog, is_too_many, queue_units, queue_prog, depart_units, depart_prog, seize_or_wait, seize_prog, first_number, is_owner, release_to, release_prog, go_to, lead_to, transfer_prog, priority_prog, block_prog, meet_prog, try_prog, attempt_prog, least_time, within_prog, clock_prog, pick_prog, scan_prog, move_prog, decide, step_prog}
 use Rattle.gw_expr.specs.Arithmetic.{applied}
 use Rattle.gw_expr.specs.declared.token.Operator.TheVariants as operators
@@ -67,8 +67,8 @@ use Rattle.gw_frame.proofs.Lawful.{IsError, ProgLawful, Lawful, result_with, and
 use Rattle.gw_names.specs.declared.key.Key.TheVariants as keys
 use Rattle.gw_meaning.specs.Entities.{store_at}
 use Rattle.gw_meaning.specs.Step.{beside, in_use, share_of, all_shares, enter_or_wait, enter_storage, enter_prog, shares_prog, leave_for, leave_units, leave_prog}
-use Rattle.gw_frame.proofs.DecidedValues.{Decides, Whatever, IsNoStorage, draw_decides, arithmetic_decides, value_decides, value_there_decides, value_or_zero_decides, entity_decides, units_decides, time_decides, with_one, value_traced_decides, entity_traced_decides, same}
-use Rattle.gw_frame.proofs.Known.{IsComing, IsComingIfAny, AreFirst, within_limit, leaves, does_fit, shares_of, ActiveOwns, IsDecidedFate, IsRefused, AreWatched, IsDecided, IsRead, IsAfter, LinksBy, never, WaitsAtVerb, WaitsAtBlock, LinksAtVerb, LinksAtBlock, IsTriedOr, IsNext, NobodyMoves, IsStep, IsEnd, attempt_step, step_is_decided, IsDecidedChange}
+use Rattle.gw_frame.proofs.DecidedValues.{Twins, Decides, asks_named, Whatever, IsNoStorage, draw_decides, arithmetic_decides, value_decides, value_there_decides, value_or_zero_decides, entity_decides, units_decides, time_decides, with_one, value_traced_decides, entity_traced_decides, same}
+use Rattle.gw_frame.proofs.Known.{IsComing, IsComingIfAny, AreFirst, within_limit, leaves, does_fit, shares_of, ActiveOwns, IsDecidedFate, IsRefused, AreWatched, IsDecided, IsRead, IsAfter, LinksBy, never, WaitsAtVerb, WaitsAtBlock, LinksAtVerb, LinksAtBlock, IsTriedOr, IsNext, NobodyMoves, IsStep, IsEnd, attempt_step, step_is_decided, IsDecidedChange, IsSentTo}
 
 -- there are no more GENERATEs than statements
 few_generates : (lines : List Numbered) → length (generates_in lines) ≤ length lines
@@ -107,7 +107,19 @@ module _ (move : ℕ → ℕ) where
   next_moved : (s : Machine) (key : Key) → first_number (delay_at (moved_machine move s).delays key) ≡ first_number (delay_at s.delays key)
   next_moved s key = ap first_number (delay_at_moved move s.delays key) ∙ first_number_moved (delay_at s.delays key)
 
-module _ (t : Listing) (seed : ℕ) (s : Machine) (move : ℕ → ℕ) (renames : IsMove move) where
+module _ (twins : Twins) where
+  abbrev t : Listing
+  t = twins.version
+
+  abbrev seed : ℕ
+  seed = twins.seed
+
+  abbrev s : Machine
+  s = twins.state
+
+  abbrev move : ℕ → ℕ
+  move = twins.move
+
   abbrev twin : Machine
   twin = moved_machine move s
 
@@ -116,7 +128,7 @@ module _ (t : Listing) (seed : ℕ) (s : Machine) (move : ℕ → ℕ) (renames 
   arrival_if_any = option_map (moved_arrival move)
 
   abbrev Comes : Eval (Option Arrival) → Eval (Option Arrival) → Type 0
-  Comes p q = Decides t seed s move renames arrival_if_any (IsComingIfAny t s) p q
+  Comes p q = Decides twins arrival_if_any (IsComingIfAny t s) p q
 
   arrival_at_decides : (id : ℕ) (time priority : ℤ) → IsBlockId t id → Comes (arrival_at s id time priority) (arrival_at twin (move id) time priority)
   arrival_at_decides id time priority named =
@@ -126,14 +138,14 @@ module _ (t : Listing) (seed : ℕ) (s : Machine) (move : ℕ → ℕ) (renames 
   arrival_in_time_decides : (q : Asker) (id : ℕ) (mean range priority : Option Term) → IsBlockId t id →
       Comes (arrival_in_time s q id mean range priority) (arrival_in_time twin q (move id) mean range priority)
   arrival_in_time_decides q id mean range priority named =
-      lawful_bind _ (time_decides t seed s move renames q mean range)
-      (λ v h. lawful_bind _ (value_or_zero_decides t seed s move renames q priority) (λ p k. arrival_at_decides id v p named))
+      lawful_bind _ (time_decides twins q mean range)
+      (λ v h. lawful_bind _ (value_or_zero_decides twins q priority) (λ p k. arrival_at_decides id v p named))
 
   arrival_decides : (q : Asker) (id made : ℕ) (mean range limit priority : Option Term) → IsBlockId t id →
       Comes (arrival_prog s q id made mean range limit priority) (arrival_prog twin q (move id) made mean range limit priority)
   arrival_decides q id made mean range None priority named = arrival_in_time_decides q id mean range priority named
   arrival_decides q id made mean range (Some limit) priority named =
-      lawful_bind _ (value_decides t seed s move renames q limit)
+      lawful_bind _ (value_decides twins q limit)
       (λ n h. lawful_stops (is_negative n) _
       (lawful_cond (nat_le (magnitude n) made) (lawful_gives refl tt) (arrival_in_time_decides q id mean range priority named)))
 
@@ -141,9 +153,9 @@ module _ (t : Listing) (seed : ℕ) (s : Machine) (move : ℕ → ℕ) (renames 
   first_of_generate_decides : (q : Asker) (id : ℕ) (mean range offset limit priority : Option Term) → IsBlockId t id →
       Comes (first_of_generate s q id mean range offset limit priority) (first_of_generate twin q (move id) mean range offset limit priority)
   first_of_generate_decides q id mean range None limit priority named =
-      rw (count_at_moved move renames s.counts id) (arrival_decides q id (count_at s.counts id).made mean range limit priority named)
+      rw (count_at_moved move twins.renames s.counts id) (arrival_decides q id (count_at s.counts id).made mean range limit priority named)
   first_of_generate_decides q id mean range (Some offset) limit priority named =
-      rw (count_at_moved move renames s.counts id) (arrival_decides q id (count_at s.counts id).made (Some offset) None limit priority named)
+      rw (count_at_moved move twins.renames s.counts id) (arrival_decides q id (count_at s.counts id).made (Some offset) None limit priority named)
 
   first_of_decides : (q : Asker) (id : ℕ) (b : Block) (generates : Bool) → IsBlockId t id →
       Comes (first_of s q id b generates) (first_of twin q (move id) b generates)
@@ -171,7 +183,7 @@ module _ (t : Listing) (seed : ℕ) (s : Machine) (move : ℕ → ℕ) (renames 
 
   arrivals_decide : (q : Asker) (ids : List ℕ) (made : List Arrival) → (AreNumbered t.lines → AllByRecursion (IsBlockIn t.lines) ids) →
       AllByRecursion (IsComing t s) made → length made + length ids ≤ length t.lines →
-      Decides t seed s move renames (map (moved_arrival move)) (AreFirst t s) (arrivals_prog s q ids made)
+      Decides twins (map (moved_arrival move)) (AreFirst t s) (arrivals_prog s q ids made)
       (arrivals_prog twin q (map move ids) (map (moved_arrival move) made))
   arrivals_decide q [] made named all few = lawful_gives refl (record { coming = all; few = omega arith })
   arrivals_decide q (id ∷ ids) made named all few =
@@ -186,7 +198,7 @@ module _ (t : Listing) (seed : ℕ) (s : Machine) (move : ℕ → ℕ) (renames 
           lawful_asks (items.Block id) refl (λ numbered named. inr (there numbered)) (first_arrival_decides q id (block_at t id) refl)
 
   first_arrivals_decide : (count : ℕ) →
-      Decides t seed s move renames (map (moved_arrival move)) (AreFirst t s) (first_arrivals_prog s count) (first_arrivals_prog twin count)
+      Decides twins (map (moved_arrival move)) (AreFirst t s) (first_arrivals_prog s count) (first_arrivals_prog twin count)
   first_arrivals_decide count =
       let few = few_generates t.lines in
       lawful_asks items.Generates refl (λ numbered named. tt)
@@ -207,13 +219,21 @@ module _ (t : Listing) (seed : ℕ) (s : Machine) (move : ℕ → ℕ) (renames 
   -- the attempt to enter the block at id: whoever waits for a change has the property P, and the discipline of a link the property L
   module _ (id : ℕ) (P : Type 0) (L : Discipline → Type 0) where
     abbrev Attempts : Eval Move → Eval Move → Type 0
-    Attempts p q = Decides t seed s move renames (moved_move move) (IsTriedOr t s P L id) p q
+    Attempts p q = Decides twins (moved_move move) (IsTriedOr t s P L id) p q
+
+    -- where a label is, there is a block
+    to_label : (name : List ℕ) {k l : Option ℕ → Eval Move} → ((to : Option ℕ) → IsSentTo t to → Attempts (k to) (l (option_map move to))) →
+        Attempts (asks (items.Named asking.Label name) k) (asks (items.Named asking.Label name) l)
+    to_label name each = asks_named twins asking.Label name (each (label_at t name) (sent_to (label_at t name) refl)) where
+      sent_to : (to : Option ℕ) → label_at t name ≡ to → IsSentTo t to
+      sent_to None is = λ numbered. tt
+      sent_to (Some to) is = λ numbered. inr (label_there t.lines name to numbered is)
 
     generate_decides : (x : Transaction) (mean range limit priority : Option Term) → IsBlockId t id →
         Attempts (generate_prog s x id mean range limit priority)
         (generate_prog twin (moved_transaction move x) (move id) mean range limit priority)
     generate_decides x mean range limit priority named =
-        rw (none_moved move renames x.current, count_at_moved move renames s.counts id)
+        rw (none_moved move twins.renames x.current, count_at_moved move twins.renames s.counts id)
         (lawful_stops (not (nat_eq x.current 0)) _
         (lawful_bind _ (arrival_decides (for_none s.remaining) id (count_at s.counts id).made mean range limit priority named)
         (λ next h. lawful_gives refl (refl, tt, h, tt))))
@@ -224,13 +244,12 @@ module _ (t : Listing) (seed : ℕ) (s : Machine) (move : ℕ → ℕ) (renames 
 
     advance_decides : (q : Asker) (mean range : Option Term) → Attempts (advance_prog s q id mean range) (advance_prog twin q (move id) mean range)
     advance_decides q mean range =
-        lawful_bind _ (time_decides t seed s move renames q mean range)
-        (λ v h. lawful_stops (is_negative v) _ (let d = delay_decided (magnitude v) in lawful_gives refl (refl, d.0, d.1, d.2)))
+        lawful_bind _ (time_decides twins q mean range) (λ v h. lawful_stops (is_negative v) _
+        (let d = delay_decided (magnitude v) in lawful_gives refl (refl, d.0, d.1, d.2)))
 
     terminate_decides : (q : Asker) (count : Option Term) → Attempts (terminate_prog s q id count) (terminate_prog twin q (move id) count)
     terminate_decides q count =
-        lawful_bind _ (value_or_zero_decides t seed s move renames q count)
-        (λ n h. lawful_stops (is_negative n) _ (lawful_gives refl (refl, tt, tt, refl)))
+        lawful_bind _ (value_or_zero_decides twins q count) (λ n h. lawful_stops (is_negative n) _ (lawful_gives refl (refl, tt, tt, refl)))
 
     queue_units_decides : (key : Key) (units : ℕ) →
         Attempts (queue_units id key (line_at s.entities key) units) (queue_units (move id) key (line_at s.entities key) units)
@@ -242,8 +261,7 @@ module _ (t : Listing) (seed : ℕ) (s : Machine) (move : ℕ → ℕ) (renames 
 
     queue_decides : (q : Asker) (entity units : Option Term) → Attempts (queue_prog s q id entity units) (queue_prog twin q (move id) entity units)
     queue_decides q entity units =
-        lawful_bind _ (entity_decides t seed s move renames q entity)
-        (λ key h. lawful_bind _ (units_decides t seed s move renames q units) (λ n k. queue_units_decides key n))
+        lawful_bind _ (entity_decides twins q entity) (λ key h. lawful_bind _ (units_decides twins q units) (λ n k. queue_units_decides key n))
 
     depart_units_decides : (key : Key) (at_once : Bool) (units : ℕ) →
         Attempts (depart_units id key (line_at s.entities key) at_once units) (depart_units (move id) key (line_at s.entities key) at_once units)
@@ -255,8 +273,7 @@ module _ (t : Listing) (seed : ℕ) (s : Machine) (move : ℕ → ℕ) (renames 
     depart_decides : (q : Asker) (x : Transaction) (entity units : Option Term) →
         Attempts (depart_prog s q x id entity units) (depart_prog twin q (moved_transaction move x) (move id) entity units)
     depart_decides q x entity units =
-        lawful_bind _ (entity_decides t seed s move renames q entity)
-        (λ key h. lawful_bind _ (units_decides t seed s move renames q units)
+        lawful_bind _ (entity_decides twins q entity) (λ key h. lawful_bind _ (units_decides twins q units)
         (λ n k. depart_units_decides key (came s.entities.comings key x.number) n))
 
     refused_by_owner : (key : Key) → IsNoStorage key → is_some (facility_at s.entities key).owner ≡ true → IsRefused t s key 1
@@ -271,8 +288,7 @@ module _ (t : Listing) (seed : ℕ) (s : Machine) (move : ℕ → ℕ) (renames 
 
     seize_decides : (q : Asker) (entity : Option Term) → Attempts (seize_prog s q id entity) (seize_prog twin q (move id) entity)
     seize_decides q entity =
-        lawful_bind _ (entity_decides t seed s move renames q entity)
-        (λ key h. seize_or_wait_decides key (is_some (facility_at s.entities key).owner) h refl)
+        lawful_bind _ (entity_decides twins q entity) (λ key h. seize_or_wait_decides key (is_some (facility_at s.entities key).owner) h refl)
 
     active_owns : (x : Transaction) (key : Key) → s.active ≡ Some x → not (is_owner (facility_at s.entities key).owner x.number) ≡ false → ActiveOwns s key
     active_owns x key is owns y there =
@@ -288,8 +304,7 @@ module _ (t : Listing) (seed : ℕ) (s : Machine) (move : ℕ → ℕ) (renames 
 
     release_decides : (q : Asker) (x : Transaction) (entity : Option Term) → s.active ≡ Some x →
         Attempts (release_prog s q x id entity) (release_prog twin q (moved_transaction move x) (move id) entity)
-    release_decides q x entity is =
-        lawful_bind _ (entity_decides t seed s move renames q entity) (λ key h. rw (next_moved move s key) (release_to_decides x key h is))
+    release_decides q x entity is = lawful_bind _ (entity_decides twins q entity) (λ key h. rw (next_moved move s key) (release_to_decides x key h is))
 
     -- ENTER and LEAVE
     enter_or_wait_decides : (name : List ℕ) (units : ℕ) (fits : Bool) → does_fit t name
@@ -305,26 +320,24 @@ module _ (t : Listing) (seed : ℕ) (s : Machine) (move : ℕ → ℕ) (renames 
         Attempts (enter_storage id name (store_at s.entities (keys.Defined name)) units large)
         (enter_storage (move id) name (store_at s.entities (keys.Defined name)) units large)
     enter_storage_decides name units large =
-        lawful_stops (not large) _ (lawful_asks (items.Named
-        (asking.Fits (beside units (store_at s.entities (keys.Defined name)).level.content)) name) refl (λ numbered there. tt)
+        lawful_stops (not large) _ (asks_named twins (asking.Fits (beside units (store_at s.entities (keys.Defined name)).level.content)) name
         (enter_or_wait_decides name units _ refl))
 
     enter_decides : (q : Asker) (storage units : Option Term) → Attempts (enter_prog s q id storage units) (enter_prog twin q (move id) storage units)
     enter_decides q (Some (Defined name)) units =
-        lawful_bind _ (units_decides t seed s move renames q units)
-        (λ n h. lawful_asks (items.Named (asking.Fits n) name) refl (λ numbered there. tt) (enter_storage_decides name n _))
+        lawful_bind _ (units_decides twins q units) (λ n h. asks_named twins (asking.Fits n) name (enter_storage_decides name n _))
     enter_decides q (Some term) units = lawful_ends
     enter_decides q None units = lawful_ends
 
     shares_decide : (name : List ℕ) (content : ℕ) (before : List (Option ℕ)) (chain : List Transaction) →
-        Decides t seed s move renames same (λ shares. shares ≡ before ++ shares_of t name content chain) (shares_prog name content before chain)
+        Decides twins same (λ shares. shares ≡ before ++ shares_of t name content chain) (shares_prog name content before chain)
         (shares_prog name content before (map (moved_transaction move) chain))
     shares_decide name content before [] = lawful_gives refl (sym (append-nil before))
     shares_decide name content before (x ∷ xs) =
         let fits = does_fit t name (beside x.asked content) in
         let rest = shares_of t name (in_use content x.asked fits) xs in
-        lawful_asks (items.Named (asking.Fits (beside x.asked content)) name) refl (λ numbered there. tt)
-        (subst (λ ys. Decides t seed s move renames same (λ shares. shares ≡ ys)
+        asks_named twins (asking.Fits (beside x.asked content)) name
+        (subst (λ ys. Decides twins same (λ shares. shares ≡ ys)
         (shares_prog name (in_use content x.asked fits) (before ++ share_of x.asked fits ∷ []) xs)
         (shares_prog name (in_use content x.asked fits) (before ++ share_of x.asked fits ∷ []) (map (moved_transaction move) xs)))
         (append_assoc before (share_of x.asked fits ∷ []) rest)
@@ -349,22 +362,22 @@ module _ (t : Listing) (seed : ℕ) (s : Machine) (move : ℕ → ℕ) (renames 
         (λ shares is. leave_for_decides name units shares (not_over content units h) is)))
 
     leave_decides : (q : Asker) (storage units : Option Term) → Attempts (leave_prog s q id storage units) (leave_prog twin q (move id) storage units)
-    leave_decides q (Some (Defined name)) units = lawful_bind _ (units_decides t seed s move renames q units) (λ n h. leave_units_decides name n)
+    leave_decides q (Some (Defined name)) units = lawful_bind _ (units_decides twins q units) (λ n h. leave_units_decides name n)
     leave_decides q (Some term) units = lawful_ends
     leave_decides q None units = lawful_ends
 
-    go_to_decides : (name : List ℕ) (to : Option ℕ) → label_at t name ≡ to → Attempts (go_to id to) (go_to (move id) (option_map move to))
-    go_to_decides name None is = lawful_ends
-    go_to_decides name (Some to) is = lawful_gives refl (refl, tt, (λ numbered. inr (label_there t.lines name to numbered is)), tt)
+    go_to_decides : (to : Option ℕ) → IsSentTo t to → Attempts (go_to id to) (go_to (move id) (option_map move to))
+    go_to_decides None named = lawful_ends
+    go_to_decides (Some to) named = lawful_gives refl (refl, tt, named, tt)
 
     lead_to_decides : (label : Option Term) → Attempts (lead_to id label) (lead_to (move id) label)
-    lead_to_decides (Some (Label name)) = lawful_asks (items.Named asking.Label name) refl (λ numbered there. tt) (go_to_decides name (label_at t name) refl)
+    lead_to_decides (Some (Label name)) = to_label name go_to_decides
     lead_to_decides (Some term) = lawful_gives refl (refl, tt, tt, tt)
     lead_to_decides None = lawful_gives refl (refl, tt, tt, tt)
 
     transfer_decides : (fraction near far : Option Term) → Attempts (transfer_prog id fraction near far) (transfer_prog (move id) fraction near far)
     transfer_decides (Some (Fraction part)) near far =
-        lawful_bind _ (draw_decides t seed s move renames 0 (omega arith)) (λ x h. lead_to_decides (cond (nat_lt (millionths x) part) far near))
+        lawful_bind _ (draw_decides twins 0 (omega arith)) (λ x h. lead_to_decides (cond (nat_lt (millionths x) part) far near))
     transfer_decides (Some term) near far = lead_to_decides near
     transfer_decides None near far = lead_to_decides near
 
@@ -378,50 +391,44 @@ module _ (t : Listing) (seed : ℕ) (s : Machine) (move : ℕ → ℕ) (renames 
     test_decides : (q : Asker) (relation : Auxiliary) (first second label : Option Term) → (label ≡ None → P) →
         Attempts (test_prog s q id relation first second label) (test_prog twin q (move id) relation first second label)
     test_decides q relation first second None waits =
-        lawful_bind _ (value_traced_decides t seed s move renames q [] first (λ numbered. tt))
-        (λ a h. lawful_bind _ (value_traced_decides t seed s move renames q a.1 second h)
-        (λ b k. pass_or_wait_decides None b.1 (holds relation a.0 b.0) waits k))
+        lawful_bind _ (value_traced_decides twins q [] first (λ numbered. tt))
+        (λ a h. lawful_bind _ (value_traced_decides twins q a.1 second h) (λ b k. pass_or_wait_decides None b.1 (holds relation a.0 b.0) waits k))
     test_decides q relation first second (Some label) waits =
-        lawful_bind _ (value_there_decides t seed s move renames q first)
-        (λ a h. lawful_bind _ (value_there_decides t seed s move renames q second)
+        lawful_bind _ (value_there_decides twins q first) (λ a h. lawful_bind _ (value_there_decides twins q second)
         (λ b k. pass_or_wait_decides (Some label) [] (holds relation a b) waits (λ numbered. tt)))
 
     -- PRIORITY
     priority_decides : (q : Asker) (priority : Option Term) → Attempts (priority_prog s q id priority) (priority_prog twin q (move id) priority)
-    priority_decides q priority = lawful_bind _ (value_there_decides t seed s move renames q priority) (λ p h. lawful_gives refl (refl, tt, tt, tt))
+    priority_decides q priority = lawful_bind _ (value_there_decides twins q priority) (λ p h. lawful_gives refl (refl, tt, tt, tt))
 
     -- ASSIGN and LOOP
     assign_with_decides : (sign : Auxiliary) (key : Key) (was : Option ℤ) (v : ℤ) →
         Attempts (assign_with id sign key was v) (assign_with (move id) sign key was v)
-    assign_with_decides sign key was v =
-        lawful_bind _ (arithmetic_decides t seed s move renames (by_sign sign was v)) (λ to h. lawful_gives refl (refl, tt, tt, tt))
+    assign_with_decides sign key was v = lawful_bind _ (arithmetic_decides twins (by_sign sign was v)) (λ to h. lawful_gives refl (refl, tt, tt, tt))
 
     assign_decides : (q : Asker) (sign : Auxiliary) (parameter value : Option Term) →
         Attempts (assign_prog s q id sign parameter value) (assign_prog twin q (move id) sign parameter value)
     assign_decides q sign parameter value =
-        lawful_bind _ (entity_decides t seed s move renames q parameter)
-        (λ key h. lawful_bind _ (value_there_decides t seed s move renames q value)
+        lawful_bind _ (entity_decides twins q parameter) (λ key h. lawful_bind _ (value_there_decides twins q value)
         (λ v k. assign_with_decides sign key (parameter_at s.parameters q.number key) v))
 
-    left_decides : (was : Option ℤ) → Decides t seed s move renames same (Whatever {A = ℤ}) (left_of was) (left_of was)
+    left_decides : (was : Option ℤ) → Decides twins same (Whatever {A = ℤ}) (left_of was) (left_of was)
     left_decides None = lawful_ends
-    left_decides (Some v) = arithmetic_decides t seed s move renames (applied operators.Minus v (pos 1))
+    left_decides (Some v) = arithmetic_decides twins (applied operators.Minus v (pos 1))
 
-    loop_back_decides : (key : Key) (left : ℤ) (name : List ℕ) (to : Option ℕ) → label_at t name ≡ to →
+    loop_back_decides : (key : Key) (left : ℤ) (to : Option ℕ) → IsSentTo t to →
         Attempts (loop_back id key left to) (loop_back (move id) key left (option_map move to))
-    loop_back_decides key left name None is = lawful_ends
-    loop_back_decides key left name (Some to) is = lawful_gives refl (refl, tt, (λ numbered. inr (label_there t.lines name to numbered is)), tt)
+    loop_back_decides key left None named = lawful_ends
+    loop_back_decides key left (Some to) named = lawful_gives refl (refl, tt, named, tt)
 
     loop_to_decides : (key : Key) (left : ℤ) (label : Option Term) → Attempts (loop_to id key left label) (loop_to (move id) key left label)
-    loop_to_decides key left (Some (Label name)) =
-        lawful_asks (items.Named asking.Label name) refl (λ numbered there. tt) (loop_back_decides key left name (label_at t name) refl)
+    loop_to_decides key left (Some (Label name)) = to_label name (loop_back_decides key left)
     loop_to_decides key left (Some term) = lawful_ends
     loop_to_decides key left None = lawful_ends
 
     loop_decides : (q : Asker) (parameter label : Option Term) → Attempts (loop_prog s q id parameter label) (loop_prog twin q (move id) parameter label)
     loop_decides q parameter label =
-        lawful_bind _ (entity_decides t seed s move renames q parameter)
-        (λ key h. lawful_bind _ (left_decides (parameter_at s.parameters q.number key))
+        lawful_bind _ (entity_decides twins q parameter) (λ key h. lawful_bind _ (left_decides (parameter_at s.parameters q.number key))
         (λ left k. lawful_cond (nat_eq (magnitude left) 0) (lawful_gives refl (refl, tt, tt, tt)) (loop_to_decides key left label)))
 
     -- GATE
@@ -431,23 +438,21 @@ module _ (t : Listing) (seed : ℕ) (s : Machine) (move : ℕ → ℕ) (renames 
         (gate_at twin (move id) condition label key (map (moved_watched move) read) capacity)
     gate_at_decides condition label key read capacity waits all =
         let entity = watched.Entity (kind_of_condition condition) key in
-        rw (is_open_moved condition key capacity, with_watched_moved move renames read entity)
-        (pass_or_wait_decides label _ (is_open s condition key capacity) waits (with_one t seed s move renames read entity all tt))
+        rw (is_open_moved condition key capacity, with_watched_moved move twins.renames read entity)
+        (pass_or_wait_decides label _ (is_open s condition key capacity) waits (with_one twins read entity all tt))
 
     gate_storage_decides : (condition : Condition) (label : Option Term) (name : List ℕ) (reads : Bool) → (label ≡ None → P) →
         Attempts (gate_storage s id condition label name reads) (gate_storage twin (move id) condition label name reads)
     gate_storage_decides condition label name true waits =
-        lawful_asks (items.Named asking.Storage name) refl (λ numbered there. tt)
-        (gate_at_decides condition label (keys.Defined name) [] (capacity_at t name) waits (λ numbered. tt))
+        asks_named twins asking.Storage name (gate_at_decides condition label (keys.Defined name) [] (capacity_at t name) waits (λ numbered. tt))
     gate_storage_decides condition label name false waits = gate_at_decides condition label (keys.Defined name) [] 0 waits (λ numbered. tt)
 
     gate_other_decides : (q : Asker) (condition : Condition) (entity label : Option Term) → (label ≡ None → P) →
         Attempts (gate_other s q id condition entity label) (gate_other twin q (move id) condition entity label)
     gate_other_decides q condition entity None waits =
-        lawful_bind _ (entity_traced_decides t seed s move renames q entity) (λ r h. gate_at_decides condition None r.0 r.1 0 waits h)
+        lawful_bind _ (entity_traced_decides twins q entity) (λ r h. gate_at_decides condition None r.0 r.1 0 waits h)
     gate_other_decides q condition entity (Some label) waits =
-        lawful_bind _ (entity_decides t seed s move renames q entity)
-        (λ key h. gate_at_decides condition (Some label) key [] 0 waits (λ numbered. tt))
+        lawful_bind _ (entity_decides twins q entity) (λ key h. gate_at_decides condition (Some label) key [] 0 waits (λ numbered. tt))
 
     gate_of_decides : (q : Asker) (condition : Condition) (entity label : Option Term) → (label ≡ None → P) →
         Attempts (gate_of s q id condition entity label) (gate_of twin q (move id) condition entity label)
@@ -463,40 +468,35 @@ module _ (t : Listing) (seed : ℕ) (s : Machine) (move : ℕ → ℕ) (renames 
     -- LOGIC and SAVEVALUE
     logic_decides : (q : Asker) (auxiliary : Auxiliary) (entity : Option Term) →
         Attempts (logic_prog s q id auxiliary entity) (logic_prog twin q (move id) auxiliary entity)
-    logic_decides q (auxiliaries.Logic switching) entity =
-        lawful_bind _ (entity_decides t seed s move renames q entity) (λ key h. lawful_gives refl (refl, tt, tt, tt))
+    logic_decides q (auxiliaries.Logic switching) entity = lawful_bind _ (entity_decides twins q entity) (λ key h. lawful_gives refl (refl, tt, tt, tt))
     logic_decides q auxiliary entity = lawful_ends
 
     savevalue_with_decides : (sign : Auxiliary) (key : Key) (was : Option ℤ) (v : ℤ) →
         Attempts (savevalue_with id sign key was v) (savevalue_with (move id) sign key was v)
-    savevalue_with_decides sign key was v =
-        lawful_bind _ (arithmetic_decides t seed s move renames (by_sign sign was v)) (λ to h. lawful_gives refl (refl, tt, tt, tt))
+    savevalue_with_decides sign key was v = lawful_bind _ (arithmetic_decides twins (by_sign sign was v)) (λ to h. lawful_gives refl (refl, tt, tt, tt))
 
     savevalue_decides : (q : Asker) (sign : Auxiliary) (entity value : Option Term) →
         Attempts (savevalue_prog s q id sign entity value) (savevalue_prog twin q (move id) sign entity value)
     savevalue_decides q sign entity value =
-        lawful_bind _ (entity_decides t seed s move renames q entity)
-        (λ key h. lawful_bind _ (value_there_decides t seed s move renames q value)
+        lawful_bind _ (entity_decides twins q entity) (λ key h. lawful_bind _ (value_there_decides twins q value)
         (λ v k. savevalue_with_decides sign key (savevalue_at s.entities key) v))
 
     -- SPLIT
-    split_to_decides : (count : ℕ) (name : List ℕ) (to : Option ℕ) → label_at t name ≡ to → live s + count ≤ 100000 →
+    split_to_decides : (count : ℕ) → live s + count ≤ 100000 → (to : Option ℕ) → IsSentTo t to →
         Attempts (split_to id count to) (split_to (move id) count (option_map move to))
-    split_to_decides count name None is few = lawful_ends
-    split_to_decides count name (Some to) is few =
-        lawful_gives refl (refl, tt, record { few = few; named = λ numbered. inr (label_there t.lines name to numbered is) }, tt)
+    split_to_decides count few None named = lawful_ends
+    split_to_decides count few (Some to) named = lawful_gives refl (refl, tt, record { few = few; named = named }, tt)
 
     split_count_decides : (label : Option Term) (count : ℕ) → live s + count ≤ 100000 →
         Attempts (split_count id label count) (split_count (move id) label count)
     split_count_decides label zero few = lawful_gives refl (refl, tt, record { few = few; named = λ numbered. tt }, tt)
-    split_count_decides (Some (Label name)) (suc n) few =
-        lawful_asks (items.Named asking.Label name) refl (λ numbered there. tt) (split_to_decides (suc n) name (label_at t name) refl few)
+    split_count_decides (Some (Label name)) (suc n) few = to_label name (split_to_decides (suc n) few)
     split_count_decides (Some term) (suc n) few = lawful_gives refl (refl, tt, record { few = few; named = λ numbered. tt }, tt)
     split_count_decides None (suc n) few = lawful_gives refl (refl, tt, record { few = few; named = λ numbered. tt }, tt)
 
     split_decides : (q : Asker) (copies label : Option Term) → Attempts (split_prog s q id copies label) (split_prog twin q (move id) copies label)
     split_decides q copies label =
-        lawful_bind _ (value_there_decides t seed s move renames q copies)
+        lawful_bind _ (value_there_decides twins q copies)
         (λ n h. rw (live_moved move s) (lawful_stops (is_negative n) _
         (lawful_unless (nat_lt 100000 (live s + magnitude n)) _
         (λ few. split_count_decides label (magnitude n) (not_over 100000 (live s + magnitude n) few)))))
@@ -505,46 +505,42 @@ module _ (t : Listing) (seed : ℕ) (s : Machine) (move : ℕ → ℕ) (renames 
     link_decides : (q : Asker) (entity order : Option Term) → ((discipline : Discipline) → order ≡ Some (Order discipline) → L discipline) →
         Attempts (link_prog s q id entity order) (link_prog twin q (move id) entity order)
     link_decides q entity (Some (Order discipline)) links =
-        lawful_bind _ (entity_decides t seed s move renames q entity) (λ key h. lawful_gives refl (refl, links discipline refl, tt, refl))
+        lawful_bind _ (entity_decides twins q entity) (λ key h. lawful_gives refl (refl, links discipline refl, tt, refl))
     link_decides q entity (Some term) links = lawful_ends
     link_decides q entity None links = lawful_ends
 
     -- UNLINK
-    unlink_to_decides : (key : Key) (count : ℕ) (name : List ℕ) (to : Option ℕ) → label_at t name ≡ to → count ≤ length
-        (user_chain_at s.linked key).members → Attempts (unlink_to id key count to) (unlink_to (move id) key count (option_map move to))
-    unlink_to_decides key count name None is there = lawful_ends
-    unlink_to_decides key count name (Some to) is there =
-        lawful_gives refl (refl, tt, record { there = there; named = λ numbered. inr (label_there t.lines name to numbered is) }, tt)
+    unlink_to_decides : (key : Key) (count : ℕ) → count ≤ length (user_chain_at s.linked key).members → (to : Option ℕ) → IsSentTo t to →
+        Attempts (unlink_to id key count to) (unlink_to (move id) key count (option_map move to))
+    unlink_to_decides key count there None named = lawful_ends
+    unlink_to_decides key count there (Some to) named = lawful_gives refl (refl, tt, record { there = there; named = named }, tt)
 
     unlink_count_decides : (key : Key) (label : Option Term) (count : ℕ) → count ≤ length (user_chain_at s.linked key).members →
         Attempts (unlink_count id key label count) (unlink_count (move id) key label count)
     unlink_count_decides key label zero there = lawful_gives refl (refl, tt, record { there = there; named = λ numbered. tt }, tt)
-    unlink_count_decides key (Some (Label name)) (suc n) there =
-        lawful_asks (items.Named asking.Label name) refl (λ numbered h. tt) (unlink_to_decides key (suc n) name (label_at t name) refl there)
+    unlink_count_decides key (Some (Label name)) (suc n) there = to_label name (unlink_to_decides key (suc n) there)
     unlink_count_decides key (Some term) (suc n) there = lawful_ends
     unlink_count_decides key None (suc n) there = lawful_ends
 
     leaving_decides : (q : Asker) (count : Option Term) (there : ℕ) →
-        Decides t seed s move renames same (λ n. n ≤ there) (leaving_prog s q count there) (leaving_prog twin q count there)
+        Decides twins same (λ n. n ≤ there) (leaving_prog s q count there) (leaving_prog twin q count there)
     leaving_decides q None there = lawful_gives refl (omega arith)
-    leaving_decides q (Some count) there = lawful_bind _ (units_decides t seed s move renames q (Some count)) (λ n h. lawful_gives refl (min-le_right n there))
+    leaving_decides q (Some count) there = lawful_bind _ (units_decides twins q (Some count)) (λ n h. lawful_gives refl (min-le_right n there))
 
     unlink_decides : (q : Asker) (entity label count : Option Term) →
         Attempts (unlink_prog s q id entity label count) (unlink_prog twin q (move id) entity label count)
     unlink_decides q entity label count =
-        lawful_bind _ (entity_decides t seed s move renames q entity)
-        (λ key h. rw (content_moved move s.linked key) (lawful_bind _ (leaving_decides q count (length (user_chain_at s.linked key).members))
-        (λ n there. unlink_count_decides key label n there)))
+        lawful_bind _ (entity_decides twins q entity) (λ key h. rw (content_moved move s.linked key)
+        (lawful_bind _ (leaving_decides q count (length (user_chain_at s.linked key).members)) (λ n there. unlink_count_decides key label n there)))
 
     -- TABULATE
     tabulate_with_decides : (q : Asker) (key : Key) (argument : Option Term) →
         Attempts (tabulate_with s q id key argument) (tabulate_with twin q (move id) key argument)
-    tabulate_with_decides q key argument = lawful_bind _ (value_there_decides t seed s move renames q argument) (λ v h. lawful_gives refl (refl, tt, tt, tt))
+    tabulate_with_decides q key argument = lawful_bind _ (value_there_decides twins q argument) (λ v h. lawful_gives refl (refl, tt, tt, tt))
 
     tabulate_decides : (q : Asker) (table : Option Term) → Attempts (tabulate_prog s q id table) (tabulate_prog twin q (move id) table)
     tabulate_decides q (Some (Table name)) =
-        lawful_asks (items.Named asking.Table name) refl (λ numbered there. tt)
-        (tabulate_with_decides q (keys.Defined name) (ask t seed (items.Named asking.Table name)))
+        asks_named twins asking.Table name (tabulate_with_decides q (keys.Defined name) (ask t seed (items.Named asking.Table name)))
     tabulate_decides q (Some term) = lawful_ends
     tabulate_decides q None = lawful_ends
 
@@ -704,24 +700,25 @@ module _ (t : Listing) (seed : ℕ) (s : Machine) (move : ℕ → ℕ) (renames 
   pub step_lawful : ProgLawful t seed move (IsEnd t s) (moved_machine move)
       (λ v is. IsAfter t seed s v × AllByRecursion (IsRead t s) is × ReadsSeed s.streams v.streams is) (step_prog s) (step_prog twin)
   step_lawful = prog_bind _ (move_decides s.remaining s.streams refl)
-      (λ d is h. prog_gives (decided_moved move renames s d.0 d.1)
+      (λ d is h. prog_gives (decided_moved move twins.renames s d.0 d.1)
       (record { move = d.0; streams = d.1; is_step = h.0; is_decided = step_is_decided t seed s d.0 h.0; is = refl }, rw append-nil h.1, rw append-nil h.2))
 
 pub run_lawful : (t : Listing) (seed : ℕ) (move : ℕ → ℕ) → IsMove move → (n : ℕ) →
     ProgLawful t seed move (λ end. Unit {0}) (moved_machine move) (λ s is. Unit {0}) (run_prog n) (run_prog n)
 run_lawful t seed move renames zero = prog_gives refl tt
 run_lawful t seed move renames (suc n) = prog_bind _ (run_lawful t seed move renames n)
-    (λ s is h. prog_so (λ end why. tt) (λ v is k. tt) (step_lawful t seed s move renames))
+    (λ s is h. prog_so (λ end why. tt) (λ v is k. tt)
+    (step_lawful (record { version = t; seed = seed; state = s; move = move; renames = renames })))
 
 -- ---- the step alone
 
-still : IsMove (λ n. n)
-still = record { none = refl; apart = λ p q is. is }
-
 module _ (t : Listing) (seed : ℕ) (s : Machine) where
+  abbrev alone : Twins
+  alone = record { version = t; seed = seed; state = s; move = λ n. n; renames = record { none = refl; apart = λ p q is. is } }
+
   -- the move of a step, from any streams
   pub move_is_step : (before : List Stream) (d : Move × List Stream) → result_of t seed (move_prog s s.remaining before) ≡ Ok d → IsStep t seed s d.0
-  move_is_step before d is = ((move_decides t seed s (λ n. n) still s.remaining before refl).given d is).0
+  move_is_step before d is = ((move_decides alone s.remaining before refl).given d is).0
 
   pub move_is_decided : (before : List Stream) (d : Move × List Stream) → result_of t seed (move_prog s s.remaining before) ≡ Ok d → IsDecided t s d.0
   move_is_decided before d is = step_is_decided t seed s d.0 (move_is_step before d is)
@@ -734,7 +731,7 @@ module _ (t : Listing) (seed : ℕ) (s : Machine) where
   pub step_decides : (v : Machine) → step t seed s ≡ Ok v →
       IsAfter t seed s v × AllByRecursion (IsRead t s) (items_of t seed (step_prog s))
       × ReadsSeed s.streams v.streams (items_of t seed (step_prog s))
-  step_decides v is = (step_lawful t seed s (λ n. n) still).given v is
+  step_decides v is = (step_lawful alone).given v is
 
   pub step_ends : (end : End) → step t seed s ≡ Err end → IsEnd t s end
-  step_ends end is = (step_lawful t seed s (λ n. n) still).ended end is
+  step_ends end is = (step_lawful alone).ended end is

@@ -17,7 +17,10 @@ use Rattle.gw_expr.specs.declared.attribute.Subject.{Subject}
 use Rattle.gw_expr.specs.declared.attribute.Subject.TheVariants as subjects
 use Rattle.gw_nums.specs.Millionths.{times}
 use Rattle.gw_meaning.specs.declared.asker.Asker.{Asker}
+use Rattle.gw_meaning.specs.declared.item.Asked.{Asked}
 use Rattle.gw_meaning.specs.declared.item.Asked.TheVariants as asking
+use Rattle.gw_meaning.specs.Questions.{Answer, ask}
+use Rattle.gw_meaning.specs.Evaluation.{asks}
 use Rattle.gw_meaning.specs.declared.item.Item.TheVariants as items
 use Rattle.gw_meaning.specs.Listing.{Listing, capacity_at, label_at}
 use Rattle.gw_names.specs.declared.key.Key.{Key}
@@ -27,7 +30,7 @@ use Rattle.gw_meaning.specs.Machine.{Machine, count_at, user_chain_at}
 use Rattle.gw_meaning.specs.Evaluation.{Eval, number_of_draw, draw, amount, numbered, named, subject_prog, defined_prog, counted, block_count, random_prog, random_part, own_value, value_held, parameter_value, entity_value, storage_value, table_value, block_value, owned, one_if, attribute_prog, arithmetic, value_prog, value_there, value_or_zero, entity_prog, units_prog, in_range, spread, sample_within, time_prog, left_prog, modifier_of, time_by, drawn_prog, reply_prog, evaluated, entity_watched, defined_watched, counts_of, counts_watched, watched_prog, watched_by, traced, value_traced, entity_traced}
 use Rattle.gw_frame.proofs.Seeds.{uses_seed, one_drew}
 use Rattle.gw_frame.proofs.Lawful.{IsError, ProgLawful, Lawful, prog_gives, prog_bind, lawful_gives, lawful_ends, lawful_asks, lawful_cond, lawful_stops, lawful_unless, lawful_bind, all_with}
-use Rattle.gw_frame.specs.Moved.{IsMove, moved_watched, moved_machine}
+use Rattle.gw_frame.specs.Moved.{IsMove, moved_answer, moved_watched, moved_machine}
 use Rattle.gw_frame.proofs.MovedLists.{count_at_moved}
 use Rattle.gw_frame.proofs.UserChains.{content_moved, entries_moved}
 use Rattle.gw_frame.proofs.MovedWaiters.{counts_of_moved, with_all_watched_moved}
@@ -55,15 +58,42 @@ IsNoStorage key = is_storage key ≡ false
 abbrev pub same : {A : Type 0} → A → A
 same a = a
 
-module _ (t : Listing) (seed : ℕ) (s : Machine) (move : ℕ → ℕ) (renames : IsMove move) where
+-- a state of a version, and how ids move
+pub record Twins : Type 0 where
+  pub version : Listing
+  pub seed : ℕ
+  pub state : Machine
+  pub move : ℕ → ℕ
+  pub renames : IsMove move
+
+module _ (twins : Twins) where
+  abbrev pub t : Listing
+  t = twins.version
+
+  abbrev pub seed : ℕ
+  seed = twins.seed
+
+  abbrev pub s : Machine
+  s = twins.state
+
+  abbrev pub move : ℕ → ℕ
+  move = twins.move
+
   -- the moved state
-  abbrev twin : Machine
+  abbrev pub twin : Machine
   twin = moved_machine move s
 
   -- what an evaluation gives is decided, and what it reads is read, in this state; it ends with an error alone; and the one in
   -- the moved state follows it
   abbrev pub Decides : {A B : Type 0} → (A → B) → (A → Type 0) → Eval A → Eval B → Type 0
   Decides f Q p q = Lawful t seed move (IsRead t s) IsError f Q p q
+
+  -- what is asked of a name names no id
+  pub asks_named : {A B : Type 0} {f : A → B} {Q : A → Type 0} (asked : Asked) (name : List ℕ) {k : Answer (items.Named asked name) → Eval A}
+      {l : Answer (items.Named asked name) → Eval B} →
+      Decides f Q (k (ask t seed (items.Named asked name))) (l (moved_answer move (items.Named asked name) (ask t seed (items.Named asked name)))) →
+      Decides f Q (asks (items.Named asked name) k) (asks (items.Named asked name) l)
+  asks_named asked name rest = lawful_asks (items.Named asked name) refl (λ numbered named. tt) rest
 
   abbrev pub Evaluates : {A : Type 0} → Eval A → Eval A → Type 0
   Evaluates p q = Decides same Whatever p q
@@ -106,7 +136,7 @@ module _ (t : Listing) (seed : ℕ) (s : Machine) (move : ℕ → ℕ) (renames 
   subject_decides : (of : Subject) → Names (subject_prog of) (subject_prog of)
   subject_decides subjects.Own = lawful_ends
   subject_decides (subjects.Number n) = numbered_decides (pos n)
-  subject_decides (subjects.Name name) = lawful_asks (items.Named asking.Number name) refl (λ numbered named. tt) (named_decides name (number_at t name))
+  subject_decides (subjects.Name name) = asks_named asking.Number name (named_decides name (number_at t name))
 
   defined_decides : (of : Subject) (f g : Key → Eval ℤ) → ((key : Key) → Evaluates (f key) (g key)) → Evaluates (defined_prog of f) (defined_prog of g)
   defined_decides subjects.Own f g each = lawful_ends
@@ -116,7 +146,7 @@ module _ (t : Listing) (seed : ℕ) (s : Machine) (move : ℕ → ℕ) (renames 
   left_decides : (of : Subject) → Evaluates (left_prog s of) (left_prog twin of)
   left_decides subjects.Own = lawful_ends
   left_decides (subjects.Number n) = lawful_ends
-  left_decides (subjects.Name name) = lawful_asks (items.Named asking.Storage name) refl (λ numbered named. tt)
+  left_decides (subjects.Name name) = asks_named asking.Storage name
       (amount_decides (capacity_at t name - (store_at s.entities (keys.Defined name)).level.content))
 
   counted_decides : (o : Option ℕ) (f g : ℕ → Eval ℤ) → ((id : ℕ) → Evaluates (f id) (g (move id))) →
@@ -129,7 +159,7 @@ module _ (t : Listing) (seed : ℕ) (s : Machine) (move : ℕ → ℕ) (renames 
   block_count_decides subjects.Own f g each = lawful_ends
   block_count_decides (subjects.Number n) f g each = lawful_ends
   block_count_decides (subjects.Name name) f g each =
-      lawful_asks (items.Named asking.Label name) refl (λ numbered named. tt) (counted_decides (label_at t name) f g each)
+      asks_named asking.Label name (counted_decides (label_at t name) f g each)
 
   drawn_decides : (of : Subject) → Evaluates (drawn_prog of) (drawn_prog of)
   drawn_decides subjects.Own = lawful_ends
@@ -183,8 +213,8 @@ module _ (t : Listing) (seed : ℕ) (s : Machine) (move : ℕ → ℕ) (renames 
   table_value_decides key = amount_decides (length (table_at s.entities key))
 
   block_value_decides : (class : Class) (id : ℕ) → Evaluates (block_value s class id) (block_value twin class (move id))
-  block_value_decides class.N id = rw (count_at_moved move renames s.counts id) (amount_decides (count_at s.counts id).entries)
-  block_value_decides class.W id = rw (count_at_moved move renames s.counts id) (amount_decides (count_at s.counts id).content)
+  block_value_decides class.N id = rw (count_at_moved move twins.renames s.counts id) (amount_decides (count_at s.counts id).entries)
+  block_value_decides class.W id = rw (count_at_moved move twins.renames s.counts id) (amount_decides (count_at s.counts id).content)
   block_value_decides class id = lawful_ends
 
   attribute_decides : (q : Asker) (class : Class) (of : Subject) → Evaluates (attribute_prog s q class of) (attribute_prog twin q class of)
@@ -218,11 +248,11 @@ module _ (t : Listing) (seed : ℕ) (s : Machine) (move : ℕ → ℕ) (renames 
 
   -- what is replied to a question, and so what comes of any evaluation
   reply_decides : (q : Asker) (question : Question) → Evaluates (reply_prog s q question) (reply_prog twin q question)
-  reply_decides q (NumberOf name) = lawful_asks (items.Named asking.Number name) refl (λ numbered named. tt) (lawful_gives refl tt)
+  reply_decides q (NumberOf name) = asks_named asking.Number name (lawful_gives refl tt)
   reply_decides q (AttributeOf class of) = attribute_decides q class of
   reply_decides q (PartOf of) = random_part_decides of
-  reply_decides q (VariableOf name) = lawful_asks (items.Named asking.Variable name) refl (λ numbered named. tt) (lawful_gives refl tt)
-  reply_decides q (FunctionOf name) = lawful_asks (items.Named asking.Function name) refl (λ numbered named. tt) (lawful_gives refl tt)
+  reply_decides q (VariableOf name) = asks_named asking.Variable name (lawful_gives refl tt)
+  reply_decides q (FunctionOf name) = asks_named asking.Function name (lawful_gives refl tt)
 
   evaluation_decides : {A : Type 0} (q : Asker) (p : Evaluation A) → Evaluates (evaluated s q p) (evaluated twin q p)
   evaluation_decides q (Yields a) = lawful_gives refl tt
@@ -250,7 +280,7 @@ module _ (t : Listing) (seed : ℕ) (s : Machine) (move : ℕ → ℕ) (renames 
 
   pub entity_decides : (q : Asker) (term : Option Term) → Names (entity_prog s q term) (entity_prog twin q term)
   entity_decides q None = lawful_ends
-  entity_decides q (Some (Named name)) = lawful_asks (items.Named asking.Number name) refl (λ numbered named. tt) (named_decides name (number_at t name))
+  entity_decides q (Some (Named name)) = asks_named asking.Number name (named_decides name (number_at t name))
   entity_decides q (Some term) = lawful_bind _ (value_decides q term) (λ n h. numbered_decides n)
 
   pub units_decides : (q : Asker) (term : Option Term) → Evaluates (units_prog s q term) (units_prog twin q term)
@@ -290,7 +320,7 @@ module _ (t : Listing) (seed : ℕ) (s : Machine) (move : ℕ → ℕ) (renames 
   counts_watched_decides : (of : Subject) → Reads (counts_watched of) (counts_watched of)
   counts_watched_decides subjects.Own = lawful_gives refl (λ numbered. tt)
   counts_watched_decides (subjects.Number n) = lawful_gives refl (λ numbered. tt)
-  counts_watched_decides (subjects.Name name) = lawful_asks (items.Named asking.Label name) refl (λ numbered named. tt)
+  counts_watched_decides (subjects.Name name) = asks_named asking.Label name
       (lawful_gives (counts_of_moved move (label_at t name)) (counts_there name (label_at t name) refl))
 
   watched_decides : (class : Class) (of : Subject) → Reads (watched_prog class of) (watched_prog class of)
@@ -344,7 +374,7 @@ module _ (t : Listing) (seed : ℕ) (s : Machine) (move : ℕ → ℕ) (renames 
   traced_decides q read (Yields a) all = lawful_gives refl all
   traced_decides q read (Stops stop) all = lawful_ends
   traced_decides q read (Wants question k) all = lawful_bind _ (watched_by_decides question) (λ more here. lawful_bind _ (reply_decides q question)
-      (λ reply h. rw (with_all_watched_moved move renames read more)
+      (λ reply h. rw (with_all_watched_moved move twins.renames read more)
       (traced_decides q (with_all_watched read more) (k reply) (with_more read more all here))))
 
   pub value_traced_decides : (q : Asker) (read : List Watched) (term : Option Term) → AreWatched t read →
@@ -355,7 +385,7 @@ module _ (t : Listing) (seed : ℕ) (s : Machine) (move : ℕ → ℕ) (renames 
   pub entity_traced_decides : (q : Asker) (term : Option Term) → Traces (entity_traced s q term) (entity_traced twin q term)
   entity_traced_decides q None = lawful_ends
   entity_traced_decides q (Some (Named name)) =
-      lawful_bind _ (lawful_asks (items.Named asking.Number name) refl (λ numbered named. tt) (named_decides name (number_at t name)))
+      lawful_bind _ (asks_named asking.Number name (named_decides name (number_at t name)))
       (λ key h. lawful_gives refl (λ numbered. tt))
   entity_traced_decides q (Some term) = lawful_bind _ (traced_decides q [] (value_of term) (λ numbered. tt))
       (λ r h. lawful_bind _ (numbered_decides r.0) (λ key k. lawful_gives refl h))

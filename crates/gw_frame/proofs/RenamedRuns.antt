@@ -16,7 +16,7 @@ renamed_result move (Err end) = refl
 
 pub renamed_step : RenamedStep
 renamed_step move t u seed s r =
-    (step_lawful t seed s move r.is_move).follows u seed (renamed_answers move t u seed r) ∙ renamed_result move (step t seed s)
+    (step_lawful (record { version = t; seed = seed; state = s; move = move; renames = r.is_move })).follows u seed (renamed_answers move t u seed r) ∙ renamed_result move (step t seed s)
 
 pub renamed_run : RenamedRun
 renamed_run move t u seed n r =
