@@ -20,6 +20,7 @@ pub mod ParameterLaws
 pub mod OwnParameterLaws
 pub mod OwnValueLaws
 pub mod PlaceLaws
+pub mod EntityLaws
 pub mod FacilityLaws
 pub mod QueueLaws
 pub mod StorageLaws
