@@ -79,9 +79,6 @@ refused_ordered s x id key units h = record {
 }
 
 pub moved_ordered : (t : Listing) (s : Machine) (m : Move) → IsDecided t s m → AreChained s → AreChained (moved s m)
-moved_ordered t s (moves.Start count arrivals) decided h = record { current = h.current; delays = h.delays }
-moved_ordered t s moves.Command decided h = record { current = h.current; delays = h.delays }
-moved_ordered t s moves.Reset decided h = record { current = h.current; delays = h.delays }
 moved_ordered t s moves.Clear decided h = record { current = tt; delays = tt }
 moved_ordered t s (moves.Enter id change fate) decided h =
     entered_has AreChained AreChained t s id change fate decided.1 h (λ x is. settled_ordered s x id change fate h)
@@ -100,6 +97,7 @@ moved_ordered t s moves.Pick decided h =
     picked_has AreChained s s.current h (λ x xs is. record { current = (subst IsOrdered is h.current).1; delays = h.delays })
 moved_ordered t s (moves.Clock time) decided h =
     record { current = ordered_all_lined (due time s.future) s.current h.current; delays = h.delays }
+moved_ordered t s m decided h = record { current = h.current; delays = h.delays }
 
 pub all_chained : (t : Listing) (seed n : ℕ) (s : Machine) → run t seed n ≡ Ok s → AreChained s
 all_chained t seed = over_run t seed (λ n s. AreChained s) (record { current = tt; delays = tt })

@@ -81,11 +81,8 @@ all_made_ahead t s (a ∷ rest) w coming h =
     all_made_ahead t s rest (made a w) coming.1 (all_with (λ (e : Event). s.clock ≤ e.time) w.future _ h (coming.0.ahead, tt))
 
 fated_ahead : (change : Change) (fate : Fate) (x : Transaction) (s : Machine) → IsDecidedFate s change fate → AreAhead s.clock s.future → AreAhead s.clock (fated fate x s).future
-fated_ahead change fates.Active x s decided h = h
-fated_ahead change fates.Current x s decided h = h
 fated_ahead change (fates.Delayed until) x s decided h = all_with (λ (e : Event). s.clock ≤ e.time) s.future _ h (decided.1, tt)
-fated_ahead change (fates.Linked key discipline) x s decided h = h
-fated_ahead change (fates.Destroyed count) x s decided h = h
+fated_ahead change fate x s decided h = h
 
 -- each move
 pub moved_goes_on : (t : Listing) (s : Machine) (m : Move) → IsDecided t s m → (Clears m → ⊥) → IsInTime t s → GoesOn t s.clock (moved s m)

@@ -43,10 +43,7 @@ Idle s = s.remaining ≡ 0 → s.active ≡ None
 
 fated_idle : (fate : Fate) (x : Transaction) (v : Machine) → 1 ≤ v.remaining → Idle (fated fate x v)
 fated_idle fates.Active x v busy = λ none. absurd (omega (arith, busy, none))
-fated_idle fates.Current x v busy = λ none. refl
-fated_idle (fates.Delayed until) x v busy = λ none. refl
-fated_idle (fates.Linked key discipline) x v busy = λ none. refl
-fated_idle (fates.Destroyed count) x v busy = λ none. refl
+fated_idle fate x v busy = λ none. refl
 
 lets_idle : LetsIn Idle
 lets_idle w key x passed xs is h = go x.destination where

@@ -166,19 +166,13 @@ other_stays none es other v key apart = at_with none es other v key ∙ ap (λ b
 done_same : (kind : EntityKind) (key other : Key) (deed : Deed) (clock number : ℕ) (e : Kept) →
     same_watched (watched.Entity kind key) (watched.Entity (kind_of deed) other) ≡ false → SameEntity kind key e (done other deed clock number e.0, e.1)
 done_same kinds.Facility key other (deeds.Facility deed) clock number e apart = other_stays never_owned e.0.facilities other _ key apart
-done_same kinds.Facility key other deed clock number e apart = refl
 done_same kinds.Queue key other (deeds.Queue deed) clock number e apart = other_stays no_line e.0.queues other _ key apart
-done_same kinds.Queue key other deed clock number e apart = refl
 done_same kinds.Storage key other (deeds.Storage deed) clock number e apart = other_stays never_used e.0.storages other _ key apart
-done_same kinds.Storage key other deed clock number e apart = refl
 done_same kinds.Savevalue key other (deeds.Savevalue to) clock number e apart =
     value_of-with_value e.0.savevalues other to key ∙ ap (λ b. cond b (Some to) (value_of e.0.savevalues key)) apart
-done_same kinds.Savevalue key other deed clock number e apart = refl
 done_same kinds.Switch key other (deeds.Switch set) clock number e apart = other_stays false e.0.switches other set key apart
-done_same kinds.Switch key other deed clock number e apart = refl
-done_same kinds.UserChain key other deed clock number e apart = refl
 done_same kinds.Table key other (deeds.Table value) clock number e apart = other_stays [] e.0.tables other _ key apart
-done_same kinds.Table key other deed clock number e apart = refl
+done_same kind key other deed clock number e apart = refl
 
 entering_entities : (s : Machine) (x : Transaction) (id : ℕ) (change : Change) (fate : Fate) →
     (entering s x id change fate).entities ≡ touched change s.clock x.number s.entities
@@ -199,33 +193,24 @@ touched_same : (s : Machine) (x : Transaction) (change : Change) (kind : EntityK
 touched_same s x (changes.Entity change) kind key unwritten =
     let parts = or_parts (same_watched (watched.Entity kind key) (watched.Entity (kind_of change.1) change.0)) _ unwritten in
     done_same kind key change.0 change.1 s.clock x.number (kept_of s) parts.0
-touched_same s x (changes.Generate next) kind key unwritten = entity_itself kind key (kept_of s)
-touched_same s x (changes.Transaction change) kind key unwritten = entity_itself kind key (kept_of s)
-touched_same s x (changes.Split count to) kind key unwritten = entity_itself kind key (kept_of s)
-touched_same s x (changes.Unlink chain count to) kind key unwritten = entity_itself kind key (kept_of s)
-touched_same s x changes.Nothing kind key unwritten = entity_itself kind key (kept_of s)
+touched_same s x change kind key unwritten = entity_itself kind key (kept_of s)
 
 -- a user chain that is not written stays
 fated_chain : (fate : Fate) (x : Transaction) (cs : List (Key × UserChain)) (key : Key) →
     is_watched (written_in fate) (watched.Entity kinds.UserChain key) ≡ false → user_chain_at (linked_behind fate x cs) key ≡ user_chain_at cs key
-fated_chain fates.Active x cs key unwritten = refl
-fated_chain fates.Current x cs key unwritten = refl
-fated_chain (fates.Delayed until) x cs key unwritten = refl
 fated_chain (fates.Linked chain discipline) x cs key unwritten =
     let parts = or_parts (same_watched (watched.Entity kinds.UserChain key) (watched.Entity kinds.UserChain chain)) false unwritten in
     chain_there cs key chain _ parts.0
-fated_chain (fates.Destroyed count) x cs key unwritten = refl
+fated_chain fate x cs key unwritten = refl
 
 changed_chain : (s v : Machine) (change : Change) (key : Key) → is_watched (written_by change s) (watched.Entity kinds.UserChain key) ≡ false →
     user_chain_at (changed change v).linked key ≡ user_chain_at v.linked key
-changed_chain s v (changes.Generate next) key unwritten = refl
-changed_chain s v (changes.Transaction change) key unwritten = refl
 changed_chain s v (changes.Split count to) key unwritten = ap (λ cs. user_chain_at cs key) (split_is v count to).linked
 changed_chain s v (changes.Unlink chain count to) key unwritten =
     let parts = or_parts (same_watched (watched.Entity kinds.UserChain key) (watched.Entity kinds.UserChain chain)) false unwritten in
     unlinked_there count chain to v key parts.0
 changed_chain s v (changes.Entity change) key unwritten = admitted_chain change.0 change.1 v key
-changed_chain s v changes.Nothing key unwritten = refl
+changed_chain s v change key unwritten = refl
 
 entered_chain : (s : Machine) (x : Transaction) (id : ℕ) (change : Change) (fate : Fate) (key : Key) →
     is_watched (written_by change s) (watched.Entity kinds.UserChain key) ≡ false →
@@ -239,13 +224,8 @@ entered_chain s x id change fate key by_change by_fate =
 -- what is known of the entities and of the user chains, put together
 both_same : (kind : EntityKind) (key : Key) (e : Kept) (f : Entities) (cs : List (Key × UserChain)) → SameEntity kind key e (f, e.1) →
     (kind ≡ kinds.UserChain → user_chain_at cs key ≡ user_chain_at e.1 key) → SameEntity kind key e (f, cs)
-both_same kinds.Facility key e f cs same chain = same
-both_same kinds.Queue key e f cs same chain = same
-both_same kinds.Storage key e f cs same chain = same
-both_same kinds.Savevalue key e f cs same chain = same
-both_same kinds.Switch key e f cs same chain = same
 both_same kinds.UserChain key e f cs same chain = chain refl
-both_same kinds.Table key e f cs same chain = same
+both_same kind key e f cs same chain = same
 
 entered_same : (s : Machine) (x : Transaction) (id : ℕ) (change : Change) (fate : Fate) (kind : EntityKind) (key : Key) →
     is_watched (written_where (Some x) id change fate s) (watched.Entity kind key) ≡ false →
@@ -313,14 +293,9 @@ open_same s u conditions.NotFull key capacity h = ap (λ (n : ℕ). not (nat_le 
 
 unheeded : (s : Machine) (condition : Condition) (key : Key) (m n : ℕ) → reads_capacity condition ≡ false →
     is_open s condition key m ≡ is_open s condition key n
-unheeded s conditions.InUse key m n none = refl
-unheeded s conditions.NotInUse key m n none = refl
-unheeded s conditions.IsSet key m n none = refl
-unheeded s conditions.IsReset key m n none = refl
-unheeded s conditions.Empty key m n none = refl
-unheeded s conditions.NotEmpty key m n none = refl
 unheeded s conditions.Full key m n none = absurd cc
 unheeded s conditions.NotFull key m n none = absurd cc
+unheeded s condition key m n none = refl
 
 -- it does not hold of the entity with a key, and that was read
 abbrev IsShut : Machine → Condition → Key → ℕ → List Watched → Type 0

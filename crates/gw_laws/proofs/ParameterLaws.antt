@@ -83,14 +83,7 @@ set_has k n held values some =
 change_has : (k n : ℕ) (change : Change) (held : Held) → 1 ≤ times k (held_by change n held) → (k ≡ n) ⊎ (1 ≤ times k held)
 change_has k n (changes.Transaction (own.Assign key to)) held some = set_has k n held (with_value (values_at held n) key to) some
 change_has k n (changes.Transaction (own.Loop key left to)) held some = set_has k n held (with_value (values_at held n) key left) some
-change_has k n (changes.Transaction own.Mark) held some = inr some
-change_has k n (changes.Transaction (own.Priority to)) held some = inr some
-change_has k n (changes.Transaction (own.Transfer to)) held some = inr some
-change_has k n (changes.Generate next) held some = inr some
-change_has k n (changes.Split count to) held some = inr some
-change_has k n (changes.Unlink key count to) held some = inr some
-change_has k n (changes.Entity change) held some = inr some
-change_has k n changes.Nothing held some = inr some
+change_has k n change held some = inr some
 
 inherited_has : (k n : ℕ) (values : Values) (held : Held) → 1 ≤ times k (inherited values n held) → (k ≡ n) ⊎ (1 ≤ times k held)
 inherited_has k n [] held some = inr some

@@ -42,12 +42,10 @@ admitted_clock : (key : Key) (deed : Deed) (s : Machine) → (admitted key deed 
 admitted_clock key deed s = some_let_in_clock key (deed_shares deed) [] (delay_at s.delays key) s
 
 changed_clock : (change : Change) (s : Machine) → (changed change s).clock ≡ s.clock
-changed_clock (changes.Generate next) s = refl
 changed_clock (changes.Entity change) s = admitted_clock change.0 change.1 s
-changed_clock (changes.Transaction change) s = refl
 changed_clock (changes.Split count to) s = (split_is s count to).clock
 changed_clock (changes.Unlink key count to) s = (unlink_is s key count to).clock
-changed_clock changes.Nothing s = refl
+changed_clock change s = refl
 
 entering_clock : (s : Machine) (x : Transaction) (id : ℕ) (change : Change) (fate : Fate) → (entering s x id change fate).clock ≡ s.clock
 entering_clock s x id change fate = changed_clock change (settled s x id change fate) ∙ (settled_is s x id change fate).clock

@@ -164,15 +164,10 @@ abbrev ChainsAreOnce : Machine → Type 0
 ChainsAreOnce s = AreOnce s.delays × AreOnce (members_of s.linked)
 
 settled_once : (s : Machine) (x : Transaction) (id : ℕ) (change : Change) (fate : Fate) → ChainsAreOnce s → ChainsAreOnce (settled s x id change fate)
-settled_once s x id change fates.Active h = h
-settled_once s x id change fates.Current h = h
-settled_once s x id change (fates.Delayed until) h = h
 settled_once s x id change (fates.Linked key discipline) h = (h.0, chain_once s.linked key _ h.1)
-settled_once s x id change (fates.Destroyed count) h = h
+settled_once s x id change fate h = h
 
 moved_once : (t : Listing) (s : Machine) (m : Move) → IsDecided t s m → ChainsAreOnce s → ChainsAreOnce (moved s m)
-moved_once t s (moves.Start count arrivals) decided h = h
-moved_once t s moves.Command decided h = h
 moved_once t s moves.Reset decided h = (h.0, subst AreOnce (sym (members_anew s.linked)) h.1)
 moved_once t s moves.Clear decided h = (tt, tt)
 moved_once t s (moves.Enter id change fate) decided h =
@@ -189,7 +184,7 @@ moved_once t s (moves.Refuse id key units) decided h =
     with_active_has ChainsAreOnce s.active (λ x. refused s x id key units) s h (λ x is. (with_once s.delays key _ h.0, h.1))
 moved_once t s (moves.Watch read) decided h = with_active_has ChainsAreOnce s.active (λ x. watching s x read) s h (λ x is. h)
 moved_once t s moves.Pick decided h = picked_has ChainsAreOnce s s.current h (λ x xs is. h)
-moved_once t s (moves.Clock time) decided h = h
+moved_once t s m decided h = h
 
 -- whoever waits stands on the delay chain of some key
 who_waits : (ds : List (Key × List Transaction)) (x : Transaction) → AreOnce ds → Contains (waiting ds) x → (key : Key) × Contains (delay_at ds key) x

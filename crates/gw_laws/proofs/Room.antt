@@ -115,8 +115,6 @@ IsLow s = s.next < 2 ^ 64
 
 moved_low : (t : Listing) (s : Machine) (m : Move) → IsDecided t s m → IsLow s → IsLow (moved s m)
 moved_low t s (moves.Start count arrivals) decided h = all_made_low arrivals (making_of s) h
-moved_low t s moves.Command decided h = h
-moved_low t s moves.Reset decided h = h
 moved_low t s moves.Clear decided h = omega arith
 moved_low t s (moves.Enter id change fate) decided h =
     entered_has IsLow IsLow t s id change fate decided.1 h (λ x is. rw (settled_is s x id change fate).next h)
@@ -130,7 +128,7 @@ moved_low t s (moves.Enter id change fate) decided h =
 moved_low t s (moves.Refuse id key units) decided h = with_active_has IsLow s.active (λ x. refused s x id key units) s h (λ x is. h)
 moved_low t s (moves.Watch read) decided h = with_active_has IsLow s.active (λ x. watching s x read) s h (λ x is. h)
 moved_low t s moves.Pick decided h = picked_has IsLow s s.current h (λ x xs is. h)
-moved_low t s (moves.Clock time) decided h = h
+moved_low t s m decided h = h
 
 pub all_low : (t : Listing) (seed n : ℕ) (s : Machine) → run t seed n ≡ Ok s → s.next < 2 ^ 64
 all_low t seed = over_run t seed (λ n s. IsLow s) (omega arith) (λ n s m streams there decided h. moved_low t s m decided h)

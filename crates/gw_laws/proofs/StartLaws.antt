@@ -132,10 +132,6 @@ module _ (t : Listing) (well : Well t) where
   some_under_way (suc n) some = refl
 
   fated_done : (fate : Fate) (x : Transaction) (v : Machine) → under_way v.remaining ≡ 1 → Done v → Done (fated fate x v)
-  fated_done fates.Active x v some h = h
-  fated_done fates.Current x v some h = h
-  fated_done (fates.Delayed until) x v some h = h
-  fated_done (fates.Linked key discipline) x v some h = h
   fated_done (fates.Destroyed count) x v some h =
       elim (cases_Bool (nat_lt count v.remaining)) [
         | inl less ↦ rw less (record {
@@ -159,6 +155,7 @@ module _ (t : Listing) (well : Well t) where
           none = h.none;
         })
       ]
+  fated_done fate x v some h = h
 
   lets_done : LetsIn Done
   lets_done w key x passed xs is h = go x.destination where

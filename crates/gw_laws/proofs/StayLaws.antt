@@ -269,9 +269,6 @@ module _ (q : Key) (x : Transaction) (way : IsBound x) where
 
   moved_stay : (t : Listing) (s : Machine) (m : Move) → IsDecided t s m → (Clears m → ⊥) → Contains (delay_at s.delays q) x →
       WaitsOrIsIn (moved s m)
-  moved_stay t s (moves.Start count arrivals) decided apart there = inl there
-  moved_stay t s moves.Command decided apart there = inl there
-  moved_stay t s moves.Reset decided apart there = inl there
   moved_stay t s moves.Clear decided apart there = absurd (apart tt)
   moved_stay t s (moves.Enter id change fate) decided apart there =
       entered_has WaitsOrIsIn WaitsOrIsIn t s id change fate decided.1 (inl there)
@@ -288,7 +285,7 @@ module _ (q : Key) (x : Transaction) (way : IsBound x) where
   moved_stay t s (moves.Watch read) decided apart there =
       with_active_has WaitsOrIsIn s.active (λ y. watching s y read) s (inl there) (λ y is. inl there)
   moved_stay t s moves.Pick decided apart there = picked_has WaitsOrIsIn s s.current (inl there) (λ y ys is. inl there)
-  moved_stay t s (moves.Clock time) decided apart there = inl there
+  moved_stay t s m decided apart there = inl there
 
   woken_stay : (list : List Watched) (w : Machine) → WaitsOrIsIn w → WaitsOrIsIn (woken list w)
   woken_stay list w (inl there) = inl there

@@ -79,7 +79,6 @@ admitted_keeps : (Q : Machine → Type 0) (key : Key) (deed : Deed) (v : Machine
 admitted_keeps Q key deed v lets h = some_have Q key (deed_shares deed) [] (delay_at v.delays key) v refl lets h
 
 pub changed_keeps : (Q : Machine → Type 0) (change : Change) (v : Machine) → AllKeep Q → Q v → Q (changed change v)
-changed_keeps Q (changes.Generate None) v keep h = h
 changed_keeps Q (changes.Generate (Some a)) v keep h = keep.makes a v h
 changed_keeps Q (changes.Split count to) v keep h = go v.active where
   go : (o : Option Transaction) → Q (with_active o (λ x. all_copied count to x (values_at v.parameters x.number) v) v)
@@ -89,8 +88,7 @@ changed_keeps Q (changes.Split count to) v keep h = go v.active where
 changed_keeps Q (changes.Unlink key count to) v keep h =
     some_unlinked_keep Q key to (λ w x xs is k. keep.unlinks w key to x xs is k) count (user_chain_at v.linked key).members v refl h
 changed_keeps Q (changes.Entity change) v keep h = admitted_keeps Q change.0 change.1 v keep.lets h
-changed_keeps Q (changes.Transaction change) v keep h = h
-changed_keeps Q changes.Nothing v keep h = h
+changed_keeps Q change v keep h = h
 
 -- what the start has and each step keeps, each run from zero has
 pub over_moves : (t : Listing) (seed : ℕ) (P : Machine → Type 0) → P zero_state →

@@ -56,9 +56,6 @@ module _ (s : Machine) (key : Key) where
 
   -- an entry that leaves the transaction active
   stays_served : (x : Transaction) (id : ℕ) (change : Change) → IsServed (moves.Enter id change fates.Active) (entering s x id change fates.Active)
-  stays_served x id (changes.Generate next) = inl refl
-  stays_served x id (changes.Transaction change) = inl refl
-  stays_served x id changes.Nothing = inl refl
   stays_served x id (changes.Entity change) =
       inl (admitted_chain change.0 change.1 (settled s x id (changes.Entity change) fates.Active) key)
   stays_served x id (changes.Split count to) =
@@ -78,6 +75,7 @@ module _ (s : Machine) (key : Key) where
         | inl is ↦ inr (inl (subst (λ k. TookFromTheFront m k (chain_of s k) (chain_of w k)) (sym (key_same key chain is)) took))
         | inr other ↦ inl (unlinked_there count chain to v key other)
       ]
+  stays_served x id change = inl refl
 
   -- an entry that links it
   link_served : (x : Transaction) (id : ℕ) (chain : Key) (discipline : Discipline) → s.active ≡ Some x →
@@ -115,8 +113,6 @@ module _ (s : Machine) (key : Key) where
       subst (λ c. IsServed (moves.Enter id c (fates.Destroyed count)) (entering s x id c (fates.Destroyed count))) (sym nothing) (inl refl)
 
   moved_served : (t : Listing) (m : Move) → IsDecided t s m → IsServed m (moved s m)
-  moved_served t (moves.Start count arrivals) decided' = inl refl
-  moved_served t moves.Command decided' = inl refl
   moved_served t moves.Reset decided' =
       inr (inr (inr (inl (record { resets = tt; members = chain_members s key; entries = chain_entries s key }))))
   moved_served t moves.Clear decided' = inr (inr (inr (inr (record { clears = tt; empty = refl }))))
@@ -128,7 +124,7 @@ module _ (s : Machine) (key : Key) where
   moved_served t (moves.Watch read) decided' =
       with_active_has (IsServed (moves.Watch read)) s.active (λ x. watching s x read) s (inl refl) (λ x is. inl refl)
   moved_served t moves.Pick decided' = picked_has (IsServed moves.Pick) s s.current (inl refl) (λ x xs is. inl refl)
-  moved_served t (moves.Clock time) decided' = inl refl
+  moved_served t m decided' = inl refl
 
 pub same_behind : (t : Listing) (seed : ℕ) (s v : Machine) (m : Move) (streams : List Stream) → result_of t seed (decide s) ≡ Ok (m, streams) →
     step t seed s ≡ Ok v → decided s m streams ≡ v
