@@ -264,15 +264,10 @@ IsEnd t s (ends.Error stop) =
 
 module _ (t : Listing) (seed : ℕ) (s : Machine) where
   pub attempt_step : (m : Move) → 1 ≤ s.remaining → IsAttempt t seed s m → IsStep t seed s m
-  attempt_step (moves.Start count arrivals) started a = absurd a.tried
-  attempt_step moves.Command started a = absurd a.tried
-  attempt_step moves.Reset started a = absurd a.tried
-  attempt_step moves.Clear started a = absurd a.tried
-  attempt_step moves.Pick started a = absurd a.tried
-  attempt_step (moves.Clock time) started a = absurd a.tried
   attempt_step (moves.Enter id change fate) started a = (started, a)
   attempt_step (moves.Refuse id key units) started a = (started, a)
   attempt_step (moves.Watch read) started a = (started, a)
+  attempt_step m started a = absurd a.tried
 
   is_block : (id to : ℕ) (b : Block) → block_at t id ≡ Some b → to ≡ id → IsBlockId t to
   is_block id to b there same = subst (IsBlockId t) (sym same) (inr (b, there))

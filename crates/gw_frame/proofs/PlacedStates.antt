@@ -163,20 +163,14 @@ module _ (t : Listing) where
 
   own_names : (x : Transaction) (id clock : ℕ) (change : TransactionChange) → AreNumbered t.lines → IsDecidedOwn t change → IsBlockId t id →
       TransactionNames t (own_marked change clock (placed x id))
-  own_names x id clock own.Mark numbered coming named = record { current = named; destination = tt }
-  own_names x id clock (own.Priority to) numbered coming named = record { current = named; destination = tt }
   own_names x id clock (own.Transfer to) numbered coming named = record { current = named; destination = coming numbered }
-  own_names x id clock (own.Assign key to) numbered coming named = record { current = named; destination = tt }
   own_names x id clock (own.Loop key left to) numbered coming named = record { current = named; destination = coming numbered }
+  own_names x id clock change numbered coming named = record { current = named; destination = tt }
 
   marked_names : (s : Machine) (x : Transaction) (id : ℕ) (change : Change) → AreNumbered t.lines → IsDecidedChange t s change → IsBlockId t id →
       TransactionNames t (marked change s.clock (placed x id))
-  marked_names s x id (changes.Generate next) numbered coming named = record { current = named; destination = tt }
   marked_names s x id (changes.Transaction change) numbered coming named = own_names x id s.clock change numbered coming named
-  marked_names s x id (changes.Split count to) numbered coming named = record { current = named; destination = tt }
-  marked_names s x id (changes.Unlink key count to) numbered coming named = record { current = named; destination = tt }
-  marked_names s x id (changes.Entity change) numbered coming named = record { current = named; destination = tt }
-  marked_names s x id changes.Nothing numbered coming named = record { current = named; destination = tt }
+  marked_names s x id change numbered coming named = record { current = named; destination = tt }
 
   settled_names : (s : Machine) (x : Transaction) (id : ℕ) (change : Change) (fate : Fate) → StateNames t s → TransactionNames t x → IsBlockId t id →
       TransactionNames t (marked change s.clock (placed x id)) → StateNames t (settled s x id change fate)

@@ -34,10 +34,7 @@ remains fate n = n
 
 pub remains_less : (fate : Fate) (n : ℕ) → remains fate n ≤ n
 remains_less fates.Active n = omega arith
-remains_less fates.Current n = omega arith
-remains_less (fates.Delayed until) n = omega arith
-remains_less (fates.Linked key discipline) n = omega arith
-remains_less (fates.Destroyed count) n = omega arith
+remains_less fate n = omega arith
 
 module _ (test : Transaction → Bool) where
   -- of a list

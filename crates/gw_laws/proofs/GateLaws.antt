@@ -141,21 +141,11 @@ kept_same kinds.Table key e f same = tt
 
 entity_itself : (kind : EntityKind) (key : Key) (e : Kept) → SameEntity kind key e e
 entity_itself kinds.Facility key e = refl
-entity_itself kinds.Queue key e = refl
-entity_itself kinds.Storage key e = refl
-entity_itself kinds.Savevalue key e = refl
-entity_itself kinds.Switch key e = refl
-entity_itself kinds.UserChain key e = refl
-entity_itself kinds.Table key e = refl
+entity_itself kind key e = refl
 
 later_same : (kind : EntityKind) (key : Key) (before now : ℕ) (e : Kept) → SameEntity kind key e (later before now e.0, e.1)
 later_same kinds.Facility key before now e = refl
-later_same kinds.Queue key before now e = refl
-later_same kinds.Storage key before now e = refl
-later_same kinds.Savevalue key before now e = refl
-later_same kinds.Switch key before now e = refl
-later_same kinds.UserChain key before now e = refl
-later_same kinds.Table key before now e = refl
+later_same kind key before now e = refl
 
 -- the value of another key
 other_stays : {V : Type 0} (none : V) (es : List (Key × V)) (other : Key) (v : V) (key : Key) → key_eq key other ≡ false →
