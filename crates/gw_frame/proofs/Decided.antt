@@ -377,7 +377,7 @@ module _ (twins : Twins) where
 
     transfer_decides : (fraction near far : Option Term) → Attempts (transfer_prog id fraction near far) (transfer_prog (move id) fraction near far)
     transfer_decides (Some (Fraction part)) near far =
-        lawful_bind _ (draw_decides twins 0 (omega arith)) (λ x h. lead_to_decides (cond (nat_lt (millionths x) part) far near))
+        lawful_bind _ (draw_decides twins ⊥ (λ no. no) 0 (omega arith)) (λ x h. lead_to_decides (cond (nat_lt (millionths x) part) far near))
     transfer_decides (Some term) near far = lead_to_decides near
     transfer_decides None near far = lead_to_decides near
 
@@ -404,7 +404,7 @@ module _ (twins : Twins) where
     -- ASSIGN and LOOP
     assign_with_decides : (sign : Auxiliary) (key : Key) (was : Option ℤ) (v : ℤ) →
         Attempts (assign_with id sign key was v) (assign_with (move id) sign key was v)
-    assign_with_decides sign key was v = lawful_bind _ (arithmetic_decides twins (by_sign sign was v)) (λ to h. lawful_gives refl (refl, tt, tt, tt))
+    assign_with_decides sign key was v = lawful_bind _ (arithmetic_decides twins ⊥ (by_sign sign was v)) (λ to h. lawful_gives refl (refl, tt, tt, tt))
 
     assign_decides : (q : Asker) (sign : Auxiliary) (parameter value : Option Term) →
         Attempts (assign_prog s q id sign parameter value) (assign_prog twin q (move id) sign parameter value)
@@ -414,7 +414,7 @@ module _ (twins : Twins) where
 
     left_decides : (was : Option ℤ) → Decides twins same (Whatever {A = ℤ}) (left_of was) (left_of was)
     left_decides None = lawful_ends
-    left_decides (Some v) = arithmetic_decides twins (applied operators.Minus v (pos 1))
+    left_decides (Some v) = arithmetic_decides twins ⊥ (applied operators.Minus v (pos 1))
 
     loop_back_decides : (key : Key) (left : ℤ) (to : Option ℕ) → IsSentTo t to →
         Attempts (loop_back id key left to) (loop_back (move id) key left (option_map move to))
@@ -473,7 +473,7 @@ module _ (twins : Twins) where
 
     savevalue_with_decides : (sign : Auxiliary) (key : Key) (was : Option ℤ) (v : ℤ) →
         Attempts (savevalue_with id sign key was v) (savevalue_with (move id) sign key was v)
-    savevalue_with_decides sign key was v = lawful_bind _ (arithmetic_decides twins (by_sign sign was v)) (λ to h. lawful_gives refl (refl, tt, tt, tt))
+    savevalue_with_decides sign key was v = lawful_bind _ (arithmetic_decides twins ⊥ (by_sign sign was v)) (λ to h. lawful_gives refl (refl, tt, tt, tt))
 
     savevalue_decides : (q : Asker) (sign : Auxiliary) (entity value : Option Term) →
         Attempts (savevalue_prog s q id sign entity value) (savevalue_prog twin q (move id) sign entity value)
@@ -581,7 +581,7 @@ module _ (twins : Twins) where
   -- ---- the step
 
   abbrev Steps : Eval Move → Eval Move → Type 0
-  Steps p q = Lawful t seed move (IsRead t s) (IsEnd t s) (moved_move move) (IsStep t seed s) p q
+  Steps p q = Lawful t seed move ⊥ (IsRead t s) (IsEnd t s) (moved_move move) (IsStep t seed s) p q
 
   -- commands
   start_decides : (primed : Bool) (count : ℕ) → IsNext t s (commands.Start count) → s.primed ≡ primed →
@@ -713,12 +713,13 @@ run_lawful t seed move renames (suc n) = prog_bind _ (run_lawful t seed move ren
 -- ---- the step alone
 
 module _ (t : Listing) (seed : ℕ) (s : Machine) where
-  abbrev alone : Twins
-  alone = record { version = t; seed = seed; state = s; move = λ n. n; renames = record { none = refl; apart = λ p q is. is } }
+  -- a state whose ids stay
+  abbrev pub unmoved : Twins
+  unmoved = record { version = t; seed = seed; state = s; move = λ n. n; renames = record { none = refl; apart = λ p q is. is } }
 
   -- the move of a step, from any streams
   pub move_is_step : (before : List Stream) (d : Move × List Stream) → result_of t seed (move_prog s s.remaining before) ≡ Ok d → IsStep t seed s d.0
-  move_is_step before d is = ((move_decides alone s.remaining before refl).given d is).0
+  move_is_step before d is = ((move_decides unmoved s.remaining before refl).given d is).0
 
   pub move_is_decided : (before : List Stream) (d : Move × List Stream) → result_of t seed (move_prog s s.remaining before) ≡ Ok d → IsDecided t s d.0
   move_is_decided before d is = step_is_decided t seed s d.0 (move_is_step before d is)
@@ -731,7 +732,7 @@ module _ (t : Listing) (seed : ℕ) (s : Machine) where
   pub step_decides : (v : Machine) → step t seed s ≡ Ok v →
       IsAfter t seed s v × AllByRecursion (IsRead t s) (items_of t seed (step_prog s))
       × ReadsSeed s.streams v.streams (items_of t seed (step_prog s))
-  step_decides v is = (step_lawful alone).given v is
+  step_decides v is = (step_lawful unmoved).given v is
 
   pub step_ends : (end : End) → step t seed s ≡ Err end → IsEnd t s end
-  step_ends end is = (step_lawful alone).ended end is
+  step_ends end is = (step_lawful unmoved).ended end is
