@@ -22,6 +22,7 @@ use Rattle.gw_frame.proofs.Moves.{settled, settled_is, split_is, unlink_is, with
 use Rattle.gw_laws.specs.Chain.{TheFirstIsPicked}
 use Rattle.gw_laws.specs.Clock.{IsLeast, ClockMovesOnlyWhenItMust, ClockMovesWhenItMust}
 use Rattle.gw_laws.proofs.Waiting.{let_in_is}
+use Rattle.gw_laws.proofs.Tried.{changed_keeps}
 use Rattle.gw_laws.proofs.ClockLaws.{least_is_least}
 use Rattle.gw_frame.proofs.Known.{IsStep}
 use Rattle.gw_frame.proofs.Decided.{step_decides}
@@ -30,25 +31,16 @@ use Rattle.gw_laws.proofs.Waking.{nobody_wakes}
 
 -- ---- the clock stands, but in its own move
 
-some_let_in_clock : (key : Key) (shares : List (Option ℕ)) (passed chain : List Transaction) (s : Machine) →
-    (some_let_in key shares passed chain s).clock ≡ s.clock
-some_let_in_clock key [] passed chain s = refl
-some_let_in_clock key (share ∷ shares) passed [] s = refl
-some_let_in_clock key (None ∷ shares) passed (x ∷ xs) s = some_let_in_clock key shares (passed ++ x ∷ []) xs s
-some_let_in_clock key (Some units ∷ shares) passed (x ∷ xs) s =
-    some_let_in_clock key shares passed xs (one_let_in key x (passed ++ xs) s) ∙ (let_in_is key x (passed ++ xs) s).clock
-
-admitted_clock : (key : Key) (deed : Deed) (s : Machine) → (admitted key deed s).clock ≡ s.clock
-admitted_clock key deed s = some_let_in_clock key (deed_shares deed) [] (delay_at s.delays key) s
-
-changed_clock : (change : Change) (s : Machine) → (changed change s).clock ≡ s.clock
-changed_clock (changes.Entity change) s = admitted_clock change.0 change.1 s
-changed_clock (changes.Split count to) s = (split_is s count to).clock
-changed_clock (changes.Unlink key count to) s = (unlink_is s key count to).clock
-changed_clock change s = refl
-
 entering_clock : (s : Machine) (x : Transaction) (id : ℕ) (change : Change) (fate : Fate) → (entering s x id change fate).clock ≡ s.clock
-entering_clock s x id change fate = changed_clock change (settled s x id change fate) ∙ (settled_is s x id change fate).clock
+entering_clock s x id change fate =
+    changed_keeps (λ v. v.clock ≡ s.clock) change (settled s x id change fate)
+    (record {
+      makes = λ a w k. k;
+      lets = λ w key y passed ys is k. (let_in_is key y (passed ++ ys) w).clock ∙ k;
+      copies = λ w to y values k. k;
+      unlinks = λ w key to y ys is k. k;
+    })
+    (settled_is s x id change fate).clock
 
 abbrev Stands : Machine → Machine → Type 0
 Stands s v = v.clock ≡ s.clock
