@@ -1,6 +1,6 @@
--- Each evaluation of a step is lawful: it decides a move of which what is said in Known holds, reads items that name no ids but
--- those of blocks, ends as Known says, and the one from a moved state follows it. One lemma for each choice: no law goes over
--- the verbs again.
+-- Each evaluation of a step is lawful: it decides a move of which holds what Known says, it reads items that name no
+-- ids but those of blocks, it ends as Known says, and the evaluation from a moved state follows it. There is one lemma
+-- for each choice, and one line for each verb: no law goes over the verbs again.
 use Rattle.std.proofs.Common.{◌≡◌, ℕ, zero, suc, ◌+◌, ◌≤◌, nat_eq, nat_le, nat_lt, Bool, true, false, cond, not, ◌&&◌, ◌||◌, List, [], ◌∷◌, length, Option, Some, None, is_some, option_map, map, inl, inr, ℤ, pos, ◌-◌, ◌++◌, append_assoc, refl, ap, sym, subst, ◌∙◌, append-nil, arith, Ok, Err}
 use Rattle.std.specs.List.{AllByRecursion}
 use Rattle.std.proofs.lemmas.Bool.{cond_both, not-false, or_parts}
@@ -27,7 +27,7 @@ use Rattle.gw_meaning.specs.declared.moves.Move.{Move}
 use Rattle.gw_meaning.specs.declared.moves.Change.TheVariants as changes
 use Rattle.gw_meaning.specs.declared.watched.Watched.{Watched}
 use Rattle.gw_meaning.specs.declared.watched.Watched.TheVariants as watched
-use Rattle.gw_meaning.specs.Listing.{Listing, command_at, capacity_at, block_at, label_at, generates_in, is_generate}
+use Rattle.gw_meaning.specs.Listing.{Listing, argument_at, command_at, capacity_at, block_at, label_at, generates_in, is_generate}
 use Rattle.gw_meaning.specs.Numbers.{AreNumbered}
 use Rattle.gw_names.specs.declared.key.Key.{Key}
 use Rattle.gw_entities.specs.Comings.{came}
@@ -68,7 +68,7 @@ use Rattle.gw_names.specs.declared.key.Key.TheVariants as keys
 use Rattle.gw_meaning.specs.Entities.{store_at}
 use Rattle.gw_meaning.specs.Step.{beside, in_use, share_of, all_shares, enter_or_wait, enter_storage, enter_prog, shares_prog, leave_for, leave_units, leave_prog}
 use Rattle.gw_frame.proofs.DecidedValues.{Twins, Decides, asks_named, Whatever, IsNoStorage, draw_decides, arithmetic_decides, value_decides, value_there_decides, value_or_zero_decides, entity_decides, units_decides, time_decides, with_one, value_traced_decides, entity_traced_decides, same}
-use Rattle.gw_frame.proofs.Known.{IsComing, IsComingIfAny, AreFirst, within_limit, leaves, does_fit, shares_of, ActiveOwns, IsDecidedFate, IsRefused, AreWatched, IsDecided, IsRead, IsAfter, LinksBy, never, WaitsAtVerb, WaitsAtBlock, LinksAtVerb, LinksAtBlock, IsTriedOr, IsNext, NobodyMoves, IsStep, IsEnd, attempt_step, step_is_decided, IsDecidedChange, IsSentTo}
+use Rattle.gw_frame.proofs.Known.{IsComing, IsComingIfAny, AreFirst, within_limit, leaves, does_fit, shares_of, ActiveOwns, IsDecidedFate, IsRefused, AreWatched, IsDecided, IsRead, IsAfter, LinksBy, never, WaitsAtVerb, WaitsAtBlock, LinksAtVerb, LinksAtBlock, IsTried, IsNext, NobodyMoves, IsStep, IsEnd, attempt_step, step_is_decided, IsDecidedChange, IsSentTo}
 
 -- there are no more GENERATEs than statements
 few_generates : (lines : List Numbered) → length (generates_in lines) ≤ length lines
@@ -216,10 +216,11 @@ module _ (twins : Twins) where
   is_open_moved conditions.Full key capacity = refl
   is_open_moved conditions.NotFull key capacity = refl
 
-  -- the attempt to enter the block at id: whoever waits for a change has the property P, and the discipline of a link the property L
+  -- An attempt to enter the block at id. Whoever waits for a change there has the property P, and the discipline of a
+  -- link has the property L.
   module _ (id : ℕ) (P : Type 0) (L : Discipline → Type 0) where
     abbrev Attempts : Eval Move → Eval Move → Type 0
-    Attempts p q = Decides twins (moved_move move) (IsTriedOr t s P L id) p q
+    Attempts p q = Decides twins (moved_move move) (IsTried t s P L id) p q
 
     -- where a label is, there is a block
     to_label : (name : List ℕ) {k l : Option ℕ → Eval Move} → ((to : Option ℕ) → IsSentTo t to → Attempts (k to) (l (option_map move to))) →
@@ -251,30 +252,22 @@ module _ (twins : Twins) where
     terminate_decides q count =
         lawful_bind _ (value_or_zero_decides twins q count) (λ n h. lawful_stops (is_negative n) _ (lawful_gives refl (refl, tt, tt, refl)))
 
-    queue_units_decides : (key : Key) (units : ℕ) →
-        Attempts (queue_units id key (line_at s.entities key) units) (queue_units (move id) key (line_at s.entities key) units)
-    queue_units_decides key units =
-        let line = line_at s.entities key in
-        lawful_unless (is_too_many (line.entries + units) || is_too_many (line.level.content + units)) _
-        (λ h. (let both = or_parts (is_too_many (line.entries + units)) (is_too_many (line.level.content + units)) h in lawful_gives refl
-        (refl, tt, record { entries = within_limit _ both.0; content = within_limit _ both.1 }, tt)))
-
     queue_decides : (q : Asker) (entity units : Option Term) → Attempts (queue_prog s q id entity units) (queue_prog twin q (move id) entity units)
     queue_decides q entity units =
-        lawful_bind _ (entity_decides twins q entity) (λ key h. lawful_bind _ (units_decides twins q units) (λ n k. queue_units_decides key n))
-
-    depart_units_decides : (key : Key) (at_once : Bool) (units : ℕ) →
-        Attempts (depart_units id key (line_at s.entities key) at_once units) (depart_units (move id) key (line_at s.entities key) at_once units)
-    depart_units_decides key at_once units =
+        lawful_bind _ (entity_decides twins q entity) (λ key h. lawful_bind _ (units_decides twins q units) (λ n k.
         let line = line_at s.entities key in
-        lawful_unless (at_once && is_too_many (line.zero_entries + units)) _
-        (λ h. lawful_stops (nat_lt line.level.content units) _ (lawful_gives refl (refl, tt, leaves line units at_once h, tt)))
+        lawful_unless (is_too_many (line.entries + n) || is_too_many (line.level.content + n)) _ (λ few.
+        let both = or_parts (is_too_many (line.entries + n)) (is_too_many (line.level.content + n)) few in
+        lawful_gives refl (refl, tt, record { entries = within_limit _ both.0; content = within_limit _ both.1 }, tt))))
 
     depart_decides : (q : Asker) (x : Transaction) (entity units : Option Term) →
         Attempts (depart_prog s q x id entity units) (depart_prog twin q (moved_transaction move x) (move id) entity units)
     depart_decides q x entity units =
-        lawful_bind _ (entity_decides twins q entity) (λ key h. lawful_bind _ (units_decides twins q units)
-        (λ n k. depart_units_decides key (came s.entities.comings key x.number) n))
+        lawful_bind _ (entity_decides twins q entity) (λ key h. lawful_bind _ (units_decides twins q units) (λ n k.
+        let line = line_at s.entities key in
+        let at_once = came s.entities.comings key x.number in
+        lawful_unless (at_once && is_too_many (line.zero_entries + n)) _
+        (λ few. lawful_stops (nat_lt line.level.content n) _ (lawful_gives refl (refl, tt, leaves line n at_once few, tt)))))
 
     refused_by_owner : (key : Key) → IsNoStorage key → is_some (facility_at s.entities key).owner ≡ true → IsRefused t s key 1
     refused_by_owner (keys.Num number) none owned = owned
@@ -295,16 +288,13 @@ module _ (twins : Twins) where
         let both : Some x ≡ Some y = sym is ∙ there in
         let same : x ≡ y = cc in subst (λ z. is_owner (facility_at s.entities key).owner z.number ≡ true) same (not-false _ owns)
 
-    release_to_decides : (x : Transaction) (key : Key) → IsNoStorage key → s.active ≡ Some x →
-        Attempts (release_to id key (is_owner (facility_at s.entities key).owner x.number) (first_number (delay_at s.delays key)))
-        (release_to (move id) key (is_owner (facility_at s.entities key).owner x.number) (first_number (delay_at s.delays key)))
-    release_to_decides x key none is =
-        lawful_unless (not (is_owner (facility_at s.entities key).owner x.number)) _
-        (λ h. lawful_gives refl (refl, tt, (none, refl, active_owns x key is h), tt))
-
     release_decides : (q : Asker) (x : Transaction) (entity : Option Term) → s.active ≡ Some x →
         Attempts (release_prog s q x id entity) (release_prog twin q (moved_transaction move x) (move id) entity)
-    release_decides q x entity is = lawful_bind _ (entity_decides twins q entity) (λ key h. rw (next_moved move s key) (release_to_decides x key h is))
+    release_decides q x entity is =
+        lawful_bind _ (entity_decides twins q entity)
+        (λ key h. rw (next_moved move s key)
+        (lawful_unless (not (is_owner (facility_at s.entities key).owner x.number)) _
+        (λ owns. lawful_gives refl (refl, tt, (h, refl, active_owns x key is owns), tt))))
 
     -- ENTER and LEAVE
     enter_or_wait_decides : (name : List ℕ) (units : ℕ) (fits : Bool) → does_fit t name
@@ -316,16 +306,12 @@ module _ (twins : Twins) where
         (λ h. lawful_gives refl (refl, tt, record { name = name; named = refl; fits = is; entries = within_limit _ h }, tt))
     enter_or_wait_decides name units false is = lawful_gives refl (refl, is)
 
-    enter_storage_decides : (name : List ℕ) (units : ℕ) (large : Bool) →
-        Attempts (enter_storage id name (store_at s.entities (keys.Defined name)) units large)
-        (enter_storage (move id) name (store_at s.entities (keys.Defined name)) units large)
-    enter_storage_decides name units large =
-        lawful_stops (not large) _ (asks_named twins (asking.Fits (beside units (store_at s.entities (keys.Defined name)).level.content)) name
-        (enter_or_wait_decides name units _ refl))
-
     enter_decides : (q : Asker) (storage units : Option Term) → Attempts (enter_prog s q id storage units) (enter_prog twin q (move id) storage units)
     enter_decides q (Some (Defined name)) units =
-        lawful_bind _ (units_decides twins q units) (λ n h. asks_named twins (asking.Fits n) name (enter_storage_decides name n _))
+        lawful_bind _ (units_decides twins q units)
+        (λ n h. asks_named twins (asking.Fits n) name
+        (lawful_stops (not (does_fit t name n)) _
+        (asks_named twins (asking.Fits (beside n (store_at s.entities (keys.Defined name)).level.content)) name (enter_or_wait_decides name n _ refl))))
     enter_decides q (Some term) units = lawful_ends
     enter_decides q None units = lawful_ends
 
@@ -343,23 +329,18 @@ module _ (twins : Twins) where
         (append_assoc before (share_of x.asked fits ∷ []) rest)
         (shares_decide name (in_use content x.asked fits) (before ++ share_of x.asked fits ∷ []) xs))
 
-    leave_for_decides : (name : List ℕ) (units : ℕ) (shares : List (Option ℕ)) → units ≤ (store_at s.entities (keys.Defined name)).level.content →
-        shares ≡ shares_of t name ((store_at s.entities (keys.Defined name)).level.content - units) (delay_at s.delays (keys.Defined name)) →
-        Attempts (leave_for id (keys.Defined name) (store_at s.entities (keys.Defined name)) units shares)
-        (leave_for (move id) (keys.Defined name) (store_at s.entities (keys.Defined name)) units shares)
-    leave_for_decides name units shares some shared =
-        lawful_unless (is_too_many ((store_at s.entities (keys.Defined name)).entries + all_shares shares)) _
-        (λ h. lawful_gives refl (refl, tt, record { name = name; named = refl; in_use = some; shared = shared; entries = within_limit _ h }, tt))
-
     leave_units_decides : (name : List ℕ) (units : ℕ) →
         Attempts (leave_units s id name (store_at s.entities (keys.Defined name)) units)
         (leave_units twin (move id) name (store_at s.entities (keys.Defined name)) units)
     leave_units_decides name units =
-        let content = (store_at s.entities (keys.Defined name)).level.content in
+        let store = store_at s.entities (keys.Defined name) in
+        let content = store.level.content in
         rw (delay_at_moved move s.delays (keys.Defined name))
         (lawful_unless (nat_lt content units) _
         (λ h. lawful_bind _ (shares_decide name (content - units) [] (delay_at s.delays (keys.Defined name)))
-        (λ shares is. leave_for_decides name units shares (not_over content units h) is)))
+        (λ shares is. lawful_unless (is_too_many (store.entries + all_shares shares)) _
+        (λ few. lawful_gives refl
+        (refl, tt, record { name = name; named = refl; in_use = not_over content units h; shared = is; entries = within_limit _ few }, tt)))))
 
     leave_decides : (q : Asker) (storage units : Option Term) → Attempts (leave_prog s q id storage units) (leave_prog twin q (move id) storage units)
     leave_decides q (Some (Defined name)) units = lawful_bind _ (units_decides twins q units) (λ n h. leave_units_decides name n)
@@ -402,15 +383,13 @@ module _ (twins : Twins) where
     priority_decides q priority = lawful_bind _ (value_there_decides twins q priority) (λ p h. lawful_gives refl (refl, tt, tt, tt))
 
     -- ASSIGN and LOOP
-    assign_with_decides : (sign : Auxiliary) (key : Key) (was : Option ℤ) (v : ℤ) →
-        Attempts (assign_with id sign key was v) (assign_with (move id) sign key was v)
-    assign_with_decides sign key was v = lawful_bind _ (arithmetic_decides twins ⊥ (by_sign sign was v)) (λ to h. lawful_gives refl (refl, tt, tt, tt))
-
     assign_decides : (q : Asker) (sign : Auxiliary) (parameter value : Option Term) →
         Attempts (assign_prog s q id sign parameter value) (assign_prog twin q (move id) sign parameter value)
     assign_decides q sign parameter value =
-        lawful_bind _ (entity_decides twins q parameter) (λ key h. lawful_bind _ (value_there_decides twins q value)
-        (λ v k. assign_with_decides sign key (parameter_at s.parameters q.number key) v))
+        lawful_bind _ (entity_decides twins q parameter)
+        (λ key h. lawful_bind _ (value_there_decides twins q value)
+        (λ v k. lawful_bind _ (arithmetic_decides twins ⊥ (by_sign sign (parameter_at s.parameters q.number key) v))
+        (λ to r. lawful_gives refl (refl, tt, tt, tt))))
 
     left_decides : (was : Option ℤ) → Decides twins same (Whatever {A = ℤ}) (left_of was) (left_of was)
     left_decides None = lawful_ends
@@ -471,15 +450,13 @@ module _ (twins : Twins) where
     logic_decides q (auxiliaries.Logic switching) entity = lawful_bind _ (entity_decides twins q entity) (λ key h. lawful_gives refl (refl, tt, tt, tt))
     logic_decides q auxiliary entity = lawful_ends
 
-    savevalue_with_decides : (sign : Auxiliary) (key : Key) (was : Option ℤ) (v : ℤ) →
-        Attempts (savevalue_with id sign key was v) (savevalue_with (move id) sign key was v)
-    savevalue_with_decides sign key was v = lawful_bind _ (arithmetic_decides twins ⊥ (by_sign sign was v)) (λ to h. lawful_gives refl (refl, tt, tt, tt))
-
     savevalue_decides : (q : Asker) (sign : Auxiliary) (entity value : Option Term) →
         Attempts (savevalue_prog s q id sign entity value) (savevalue_prog twin q (move id) sign entity value)
     savevalue_decides q sign entity value =
-        lawful_bind _ (entity_decides twins q entity) (λ key h. lawful_bind _ (value_there_decides twins q value)
-        (λ v k. savevalue_with_decides sign key (savevalue_at s.entities key) v))
+        lawful_bind _ (entity_decides twins q entity)
+        (λ key h. lawful_bind _ (value_there_decides twins q value)
+        (λ v k. lawful_bind _ (arithmetic_decides twins ⊥ (by_sign sign (savevalue_at s.entities key) v))
+        (λ to r. lawful_gives refl (refl, tt, tt, tt))))
 
     -- SPLIT
     split_to_decides : (count : ℕ) → live s + count ≤ 100000 → (to : Option ℕ) → IsSentTo t to →
@@ -534,13 +511,10 @@ module _ (twins : Twins) where
         (lawful_bind _ (leaving_decides q count (length (user_chain_at s.linked key).members)) (λ n there. unlink_count_decides key label n there)))
 
     -- TABULATE
-    tabulate_with_decides : (q : Asker) (key : Key) (argument : Option Term) →
-        Attempts (tabulate_with s q id key argument) (tabulate_with twin q (move id) key argument)
-    tabulate_with_decides q key argument = lawful_bind _ (value_there_decides twins q argument) (λ v h. lawful_gives refl (refl, tt, tt, tt))
-
     tabulate_decides : (q : Asker) (table : Option Term) → Attempts (tabulate_prog s q id table) (tabulate_prog twin q (move id) table)
     tabulate_decides q (Some (Table name)) =
-        asks_named twins asking.Table name (tabulate_with_decides q (keys.Defined name) (ask t seed (items.Named asking.Table name)))
+        asks_named twins asking.Table name
+        (lawful_bind _ (value_there_decides twins q (argument_at t name)) (λ v h. lawful_gives refl (refl, tt, tt, tt)))
     tabulate_decides q (Some term) = lawful_ends
     tabulate_decides q None = lawful_ends
 
@@ -633,7 +607,7 @@ module _ (twins : Twins) where
 
       attempt_is : (m : Move) (before after : List Stream) (block : Option Block) → block_at t id ≡ block →
           result_of t seed (meet_prog s x id block before) ≡ Ok (m, after) →
-          IsTriedOr t s (WaitsAtBlock block) (LinksAtBlock block) id m → IsStep t seed s m
+          IsTried t s (WaitsAtBlock block) (LinksAtBlock block) id m → IsStep t seed s m
       attempt_is m before after None is comes tried = absurd cc
       attempt_is m before after (Some b) is comes tried = attempt_step t seed s m started (record {
         who = x;

@@ -1,5 +1,6 @@
--- Each evaluation of an operand is lawful: it reads items that name no ids but those of blocks, draws with the seed where a
--- stream is set, ends with an error alone, and tells no id: so the one in a moved state follows it.
+-- Each evaluation of an operand is lawful: it reads items that name no ids but those of blocks, it draws with the seed
+-- where a stream is set, it ends with errors alone, and it tells no id, so that the evaluation in a moved state follows
+-- it.
 use Rattle.std.proofs.Common.{◌≡◌, ℕ, zero, suc, ◌<◌, nat_le, false, cond, not, ◌&&◌, Bool, true, List, [], ◌∷◌, ◌++◌, length, Result, Ok, Err, Option, Some, None, ℤ, ◌-◌, pos, inr, refl, append-nil, map, option_map, arith}
 use Rattle.std.specs.List.{AllByRecursion}
 use Rattle.std.proofs.lemmas.Bool.Decides.{nat_tests}
@@ -93,8 +94,8 @@ module _ (twins : Twins) where
   abbrev pub twin : Machine
   twin = moved_machine move s
 
-  -- what an evaluation gives is known, and what it reads is read, in this state; it ends with an error alone; the one in the moved
-  -- state follows it; and where D holds, it draws nothing
+  -- what an evaluation gives is known, and what it reads is read, in this state; it ends with an error alone; the one
+  -- in the moved state follows it; and where D holds, it draws nothing
   abbrev pub Reckons : {A B : Type 0} → Type 0 → (A → B) → (A → Type 0) → Eval A → Eval B → Type 0
   Reckons D f Q p q = Lawful t seed move D (IsRead t s) IsError f Q p q
 

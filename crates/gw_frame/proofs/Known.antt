@@ -92,8 +92,8 @@ pub record ComesIn (t : Listing) (s : Machine) (key : Key) (units : ℕ) : Type 
   pub fits : does_fit t name (beside units (store_at s.entities key).level.content) ≡ true
   pub entries : (store_at s.entities key).entries + units ≤ 1000000000
 
--- a storage has the units in use that are given back, and those who wait have the shares that fit; its entries stay within
--- the limit of counts
+-- a storage has the units in use that are given back, and those who wait have the shares that fit; its entries stay
+-- within the limit of counts
 pub record GoesOut (t : Listing) (s : Machine) (key : Key) (units : ℕ) (shares : List (Option ℕ)) : Type 0 where
   pub name : List ℕ
   pub named : key ≡ keys.Defined name
@@ -181,7 +181,8 @@ IsDecided t s (moves.Watch read) = AreWatched t read
 IsDecided t s moves.Pick = s.active ≡ None
 IsDecided t s (moves.Clock time) = (least_time s.future ≡ Some time) × (nat_le time t.horizon ≡ true)
 
--- what is known of an item that is read: where the statements have numbers of their own, it names no id but those of blocks
+-- what is known of an item that is read: where the statements have numbers of their own, it names no id but those of
+-- blocks
 abbrev pub IsRead : Listing → Machine → Item → Type 0
 IsRead t s i = AreNumbered t.lines → ActiveNames t s.active → ItemNames t i
 
@@ -214,12 +215,13 @@ abbrev pub LinksBy : (Discipline → Type 0) → Fate → Type 0
 LinksBy L (fates.Linked key discipline) = L discipline
 LinksBy L fate = Unit {0}
 
--- the block at id is entered, or refuses, or its transaction waits for a change as it came, and then it has the property P
-abbrev pub IsTriedOr : Listing → Machine → Type 0 → (Discipline → Type 0) → ℕ → Move → Type 0
-IsTriedOr t s P L id (moves.Enter to change fate) = (to ≡ id) × LinksBy L fate × IsDecidedChange t s change × IsDecidedFate s change fate
-IsTriedOr t s P L id (moves.Refuse to key units) = (to ≡ id) × IsRefused t s key units
-IsTriedOr t s P L id (moves.Watch read) = P × AreWatched t read
-IsTriedOr t s P L id move = ⊥
+-- the block at id is entered, or refuses, or its transaction waits for a change as it came, and then it has the
+-- property P
+abbrev pub IsTried : Listing → Machine → Type 0 → (Discipline → Type 0) → ℕ → Move → Type 0
+IsTried t s P L id (moves.Enter to change fate) = (to ≡ id) × LinksBy L fate × IsDecidedChange t s change × IsDecidedFate s change fate
+IsTried t s P L id (moves.Refuse to key units) = (to ≡ id) × IsRefused t s key units
+IsTried t s P L id (moves.Watch read) = P × AreWatched t read
+IsTried t s P L id move = ⊥
 
 -- the active transaction tries the block to which it goes, and this comes of it
 pub record IsAttempt (t : Listing) (seed : ℕ) (s : Machine) (m : Move) : Type 0 where
@@ -232,7 +234,7 @@ pub record IsAttempt (t : Listing) (seed : ℕ) (s : Machine) (m : Move) : Type 
   pub before : List Stream
   pub after : List Stream
   pub comes : result_of t seed (meet_prog s who id (Some block) before) ≡ Ok (m, after)
-  pub tried : IsTriedOr t s (WaitsAtBlock (Some block)) (LinksAtBlock (Some block)) id m
+  pub tried : IsTried t s (WaitsAtBlock (Some block)) (LinksAtBlock (Some block)) id m
 
 -- ---- a step
 
@@ -252,8 +254,8 @@ IsStep t seed s moves.Pick = (1 ≤ s.remaining) × (s.active ≡ None)
 IsStep t seed s (moves.Clock time) = NobodyMoves s × (least_time s.future ≡ Some time) × (nat_le time t.horizon ≡ true)
 IsStep t seed s move = (1 ≤ s.remaining) × IsAttempt t seed s move
 
--- why there is none: no command is left, nobody will move, the clock would go beyond the horizon; and an error comes in an
--- attempt, or where a START makes the first transactions
+-- why there is none: no command is left, nobody will move, the clock would go beyond the horizon; and an error comes in
+-- an attempt, or where a START makes the first transactions
 abbrev pub IsEnd : Listing → Machine → End → Type 0
 IsEnd t s ends.CommandsDone = (s.remaining ≡ 0) × (command_at t (raised s.commands) ≡ None)
 IsEnd t s ends.Dry = NobodyMoves s × (least_time s.future ≡ None)

@@ -1,6 +1,6 @@
--- What the laws want to know of an evaluation in a state and of the same one in the moved state: what the first gives, how it
--- ends, what it reads and draws, and that the second comes to the same, moved, where its questions are answered moved. Each
--- way to build evaluations keeps this.
+-- What the laws want to know of an evaluation in a state, and of the same evaluation in the moved state: what the first
+-- gives, how it ends, what it reads and draws; and that the second comes to the same, moved, where its questions are
+-- answered moved. Each way to build evaluations keeps this, so each verb is one lemma.
 use Rattle.std.proofs.Common.{◌≡◌, ℕ, Bool, true, false, cond, List, [], ◌∷◌, ◌++◌, Result, Ok, Err, refl, ap, sym, subst, ◌∙◌}
 use Rattle.std.specs.List.{AllByRecursion}
 use Rattle.gw_expr.specs.declared.stop.Stop.{Stop}
@@ -34,17 +34,17 @@ result_with f (Err end) = Err end
 abbrev pub IsAnsweredMoved : (ℕ → ℕ) → Listing → ℕ → Listing → ℕ → Type 0
 IsAnsweredMoved move t seed u new_seed = (i : Item) → MovedAnswer move t seed u new_seed i
 
--- what p gives and the items that it reads have the property Q, an end of it has the property E, and q follows p, with f of
--- what p gives
+-- what p gives and the items that it reads have the property Q, an end of it has the property E, and q follows p, with
+-- f of what p gives
 pub record ProgLawful {A B : Type 0} (t : Listing) (seed : ℕ) (move : ℕ → ℕ) (E : End → Type 0) (f : A → B) (Q : A → List Item → Type 0)
     (p : Prog A) (q : Prog B) : Type 0 where
   pub given : (a : A) → result_of t seed p ≡ Ok a → Q a (items_of t seed p)
   pub ended : (end : End) → result_of t seed p ≡ Err end → E end
   pub follows : (u : Listing) (new_seed : ℕ) → IsAnsweredMoved move t seed u new_seed → result_of u new_seed q ≡ result_with f (result_of t seed p)
 
--- the same of evaluations, from any streams: what p gives has the property Q, each item that it reads the property I, it
--- reads the seed just where a stream draws first, and both have the same streams behind; where D holds, p draws nothing, and
--- comes to the same from any streams
+-- the same of evaluations, from any streams: what p gives has the property Q, each item that it reads the property I,
+-- it reads the seed just where a stream draws first, and both have the same streams behind; where D holds, p draws
+-- nothing, and comes to the same from any streams
 abbrev pub Known : {A : Type 0} → (Item → Type 0) → (A → Type 0) → List Stream → A × List Stream → List Item → Type 0
 Known I Q before r is = Q r.0 × AllByRecursion I is × Drew before r.1 is
 

@@ -90,6 +90,19 @@ module _ (k : ℕ) (low : k < 2 ^ 64 - 1) (test : Transaction → Bool) (none_ot
         | inr other ↦ let no_more : one (test y) ≡ 0 = ap one (none_other y other) in omega (arith, no_more, rest)
       ]
 
+  -- where nobody beside the active one has the number, nobody beside it passes
+  none_beside : (s : Machine) → others (has_number k) s ≡ 0 → others test s ≡ 0
+  none_beside s none =
+      let events = map (λ (e : Event). e.transaction) s.future in
+      let whole = many_future (has_number k) s.future in
+      let part = many_future test s.future in
+      let current = none_in s.current (omega arith) in
+      let future = none_in events (omega arith) in
+      let wait = none_in (waiting s.delays) (omega arith) in
+      let retry = none_in (transactions_of s.retry) (omega arith) in
+      let linked = none_in (waiting (members_of s.linked)) (omega arith) in
+      omega arith
+
 -- whoever does not pass the last test does not pass the other one, wherever it is sent
 module _ (k : ℕ) (low : k < 2 ^ 64 - 1) (test : Transaction → Bool) (none_other : (y : Transaction) → has_number k y ≡ false → test y ≡ false)
     (unsent : Transaction → Bool) (none_sent : (y : Transaction) (to : Option ℕ) → unsent y ≡ false → test (sent to y) ≡ false) where
@@ -228,17 +241,7 @@ module _ (s : Machine) (x : Transaction) (id : ℕ) (active : s.active ≡ Some 
       omega arith
 
   none_stray : others stray s ≡ 0
-  none_stray =
-      let none = no_other in
-      let events = map (λ (e : Event). e.transaction) s.future in
-      let whole = many_future has s.future in
-      let part = many_future stray s.future in
-      let current = none_in x.number low stray stray_other s.current (omega arith) in
-      let future = none_in x.number low stray stray_other events (omega arith) in
-      let wait = none_in x.number low stray stray_other (waiting s.delays) (omega arith) in
-      let retry = none_in x.number low stray stray_other (transactions_of s.retry) (omega arith) in
-      let linked = none_in x.number low stray stray_other (waiting (members_of s.linked)) (omega arith) in
-      omega arith
+  none_stray = none_beside x.number low stray stray_other s no_other
 
   -- one with its number that is in another block: wherever it is sent, it is right where it is in this one
   abbrev elsewhere : Transaction → Bool
@@ -537,20 +540,7 @@ module _ (x : Transaction) (low : x.number < 2 ^ 64 - 1) where
 
 -- where the one that is active has a number, nobody else has it
 none_changed : (s : Machine) (x : Transaction) → s.active ≡ Some x → IsNumbered s → (low : x.number < 2 ^ 64 - 1) → others (changed_one x low) s ≡ 0
-none_changed s x active h low =
-    let has : Transaction → Bool = has_number x.number in
-    let test = changed_one x low in
-    let other = changed_other x low in
-    let nobody = no_other s x 0 active h low in
-    let events = map (λ (e : Event). e.transaction) s.future in
-    let whole = many_future has s.future in
-    let part = many_future test s.future in
-    let current = none_in x.number low test other s.current (omega arith) in
-    let future = none_in x.number low test other events (omega arith) in
-    let wait = none_in x.number low test other (waiting s.delays) (omega arith) in
-    let retry = none_in x.number low test other (transactions_of s.retry) (omega arith) in
-    let linked = none_in x.number low test other (waiting (members_of s.linked)) (omega arith) in
-    omega arith
+none_changed s x active h low = none_beside x.number low (changed_one x low) (changed_other x low) s (no_other s x 0 active h low)
 
 pub others_stay_in_their_blocks : OthersStayInTheirBlocks
 others_stay_in_their_blocks t seed n s v well within there is x y stands lives' same =

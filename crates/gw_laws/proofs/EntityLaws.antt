@@ -1,5 +1,5 @@
--- A law of the entities at the clock: what each deed, a later clock and a RESET keep, each run from zero has. So a law of one
--- kind of entity says nothing of moves, and has one line for the deeds of all other kinds.
+-- A law of the entities at the clock: what each deed, a later clock and a RESET keep, each run from zero has. So a law
+-- of one kind of entity says nothing of moves, and has one line for the deeds of all other kinds.
 use Rattle.std.proofs.Common.{◌≡◌, ℕ, suc, ◌≤◌, ◌++◌, Ok, arith}
 use Rattle.gw_names.specs.declared.key.Key.{Key}
 use Rattle.gw_meaning.specs.declared.entity_change.Deed.{Deed}
