@@ -33,16 +33,16 @@ use Rattle.gw_names.specs.declared.key.Key.{Key}
 use Rattle.gw_entities.specs.Comings.{came}
 use Rattle.gw_meaning.specs.Entities.{facility_at, line_at, savevalue_at}
 use Rattle.gw_meaning.specs.Machine.{Machine, raised, live, delay_at, user_chain_at}
-use Rattle.gw_meaning.specs.Questions.{ask, result_of}
+use Rattle.gw_meaning.specs.Questions.{result_of}
 use Rattle.gw_meaning.specs.Evaluation.{asks, Eval, named, owned, millionths}
-use Rattle.gw_meaning.specs.Step.{for_none, for_one, arrival_at, arrival_in_time, arrival_prog, first_of_generate, first_of, first_arrival, with_arrival, prime_prog, arrivals_prog, first_arrivals_prog, start_prog, command_prog, generate_prog, delay_of, advance_prog, terminate_prog, is_too_many, queue_units, queue_prog, depart_units, depart_prog, seize_or_wait, seize_prog, first_number, is_owner, release_to, release_prog, go_to, lead_to, transfer_prog, priority_prog, block_prog, meet_prog, try_prog, attempt_prog, least_time, within_prog, clock_prog, pick_prog, scan_prog, move_prog, decide, step_prog}
+use Rattle.gw_meaning.specs.Step.{for_none, for_one, arrival_at, arrival_in_time, arrival_prog, first_of_generate, first_of, first_arrival, with_arrival, prime_prog, arrivals_prog, first_arrivals_prog, start_prog, command_prog, generate_prog, delay_of, advance_prog, terminate_prog, is_too_many, queue_prog, depart_prog, seize_or_wait, seize_prog, first_number, is_owner, release_prog, go_to, lead_to, transfer_prog, priority_prog, block_prog, meet_prog, try_prog, attempt_prog, least_time, within_prog, clock_prog, pick_prog, scan_prog, move_prog, decide, step_prog}
 use Rattle.gw_expr.specs.Arithmetic.{applied}
 use Rattle.gw_expr.specs.declared.token.Operator.TheVariants as operators
 use Rattle.gw_meaning.specs.declared.auxiliary.Auxiliary.{Auxiliary}
 use Rattle.gw_meaning.specs.declared.auxiliary.Auxiliary.TheVariants as auxiliaries
 use Rattle.gw_meaning.specs.declared.auxiliary.Condition.{Condition}
 use Rattle.gw_entities.specs.Parameters.{parameter_at}
-use Rattle.gw_meaning.specs.Step.{by_sign, assign_with, assign_prog, left_of, loop_back, loop_to, loop_prog, pass_or_wait, holds, test_prog, kind_of_condition, is_open, reads_capacity, gate_at, gate_storage, gate_other, gate_of, gate_prog, logic_prog, savevalue_with, savevalue_prog, split_to, split_count, split_prog, link_prog, unlink_to, unlink_count, leaving_prog, unlink_prog, tabulate_with, tabulate_prog}
+use Rattle.gw_meaning.specs.Step.{by_sign, assign_prog, left_of, loop_back, loop_to, loop_prog, pass_or_wait, holds, test_prog, kind_of_condition, is_open, reads_capacity, gate_at, gate_storage, gate_other, gate_of, gate_prog, logic_prog, savevalue_prog, split_to, split_count, split_prog, link_prog, unlink_to, unlink_count, leaving_prog, unlink_prog, tabulate_prog}
 use Rattle.std.proofs.lemmas.List.{map-append, length-map}
 use Rattle.gw_expr.specs.declared.expr.Discipline.{Discipline}
 use Rattle.gw_meaning.specs.declared.item.End.{End}
@@ -66,7 +66,7 @@ use Rattle.gw_frame.proofs.Seeds.{ReadsSeed, set_first}
 use Rattle.gw_frame.proofs.Lawful.{IsError, ProgLawful, Lawful, result_with, and_streams, all_with, prog_gives, prog_so, prog_bind, lawful_gives, lawful_end, lawful_ends, lawful_asks, lawful_asks_so, lawful_cond, lawful_stops, lawful_unless, lawful_bind, lawful_so}
 use Rattle.gw_names.specs.declared.key.Key.TheVariants as keys
 use Rattle.gw_meaning.specs.Entities.{store_at}
-use Rattle.gw_meaning.specs.Step.{beside, in_use, share_of, all_shares, enter_or_wait, enter_storage, enter_prog, shares_prog, leave_for, leave_units, leave_prog}
+use Rattle.gw_meaning.specs.Step.{beside, in_use, share_of, all_shares, enter_or_wait, enter_prog, shares_prog, leave_units, leave_prog}
 use Rattle.gw_frame.proofs.DecidedValues.{Twins, Decides, asks_named, Whatever, IsNoStorage, draw_decides, arithmetic_decides, value_decides, value_there_decides, value_or_zero_decides, entity_decides, units_decides, time_decides, with_one, value_traced_decides, entity_traced_decides, same}
 use Rattle.gw_frame.proofs.Known.{IsComing, IsComingIfAny, AreFirst, within_limit, leaves, does_fit, shares_of, ActiveOwns, IsDecidedFate, IsRefused, AreWatched, IsDecided, IsRead, IsAfter, LinksBy, never, WaitsAtVerb, WaitsAtBlock, LinksAtVerb, LinksAtBlock, IsTried, IsNext, NobodyMoves, IsStep, IsEnd, attempt_step, step_is_decided, IsDecidedChange, IsSentTo}
 
@@ -673,9 +673,21 @@ module _ (twins : Twins) where
 
   pub step_lawful : ProgLawful t seed move (IsEnd t s) (moved_machine move)
       (λ v is. IsAfter t seed s v × AllByRecursion (IsRead t s) is × ReadsSeed s.streams v.streams is) (step_prog s) (step_prog twin)
-  step_lawful = prog_bind _ (move_decides s.remaining s.streams refl)
-      (λ d is h. prog_gives (decided_moved move twins.renames s d.0 d.1)
-      (record { move = d.0; streams = d.1; is_step = h.0; is_decided = step_is_decided t seed s d.0 h.0; is = refl }, rw append-nil h.1, rw append-nil h.2))
+  step_lawful =
+      prog_bind {Q = λ d is. (result_of t seed (decide s) ≡ Ok d) × IsStepped s.streams d is} _
+      (prog_so (λ end why. why) (λ d goes h. (goes, h)) (move_decides s.remaining s.streams refl))
+      (λ d is h. prog_gives (decided_moved move twins.renames s d.0 d.1) (
+        record {
+          move = d.0;
+          streams = d.1;
+          goes = h.0;
+          is_step = h.1.0;
+          is_decided = step_is_decided t seed s d.0 h.1.0;
+          is = refl;
+        },
+        rw append-nil h.1.1,
+        rw append-nil h.1.2,
+      ))
 
 pub run_lawful : (t : Listing) (seed : ℕ) (move : ℕ → ℕ) → IsMove move → (n : ℕ) →
     ProgLawful t seed move (λ end. Unit {0}) (moved_machine move) (λ s is. Unit {0}) (run_prog n) (run_prog n)

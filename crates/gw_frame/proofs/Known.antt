@@ -27,7 +27,7 @@ use Rattle.gw_entities.specs.Records.{Line}
 use Rattle.gw_meaning.specs.Entities.{facility_at, line_at}
 use Rattle.gw_meaning.specs.Machine.{Machine, raised, live, delay_at, user_chain_at}
 use Rattle.gw_meaning.specs.Changes.{decided}
-use Rattle.gw_meaning.specs.Step.{is_too_many, first_number, is_owner, least_time, meet_prog}
+use Rattle.gw_meaning.specs.Step.{is_too_many, first_number, is_owner, least_time, meet_prog, decide}
 use Rattle.gw_meaning.specs.Questions.{result_of}
 use Rattle.gw_meaning.specs.Statements.{B, C, operand}
 use Rattle.gw_meaning.specs.Listing.{block_at, after_at, or_next}
@@ -291,6 +291,7 @@ module _ (t : Listing) (seed : ℕ) (s : Machine) where
 pub record IsAfter (t : Listing) (seed : ℕ) (s v : Machine) : Type 0 where
   pub move : Move
   pub streams : List Stream
+  pub goes : result_of t seed (decide s) ≡ Ok (move, streams)
   pub is_step : IsStep t seed s move
   pub is_decided : IsDecided t s move
   pub is : v ≡ decided s move streams

@@ -19,7 +19,7 @@ use Rattle.gw_meaning.proofs.Programs.{bind_gives, bind_ends, run_on}
 use Rattle.gw_laws.specs.Ends.{IsDone, IsDry, IsBeyond, EndsDone, EndsDry, EndsAtHorizon, IsMoving, IsPriming, ErrorsAreOfAttempts, EndsBehindALastState, EndsForGood}
 use Rattle.gw_laws.proofs.ClockLaws.{AreAhead, never_none, least_is_least}
 use Rattle.gw_frame.proofs.Known.{IsEnd}
-use Rattle.gw_frame.proofs.Decided.{step_ends}
+use Rattle.gw_frame.proofs.Decided.{step_decides, step_ends}
 
 -- ---- least times
 
@@ -75,11 +75,7 @@ module _ (t : Listing) (seed : ℕ) (s : Machine) where
   comes_to_end end is = (bind_ends t seed (decide s) made end is).0
 
   pub went_on : (v : Machine) → step t seed s ≡ Ok v → (d : Move × List Stream) × (result_of t seed (decide s) ≡ Ok d) × (v ≡ decided s d.0 d.1)
-  went_on v is = go (result_of t seed (decide s)) refl where
-    go : (r : Result (Move × List Stream) End) → result_of t seed (decide s) ≡ r →
-        (d : Move × List Stream) × (result_of t seed (decide s) ≡ Ok d) × (v ≡ decided s d.0 d.1)
-    go (Ok d) there = let both : Ok v ≡ Ok (decided s d.0 d.1) = sym is ∙ goes_on d there in (d, there, cc)
-    go (Err end) there = absurd (let no : Ok v ≡ Err end = sym is ∙ comes_to_end end there in cc)
+  went_on v is = let after = (step_decides t seed s v is).0 in ((after.move, after.streams), after.goes, after.is)
 
   -- where no START is under way, it is a command; else the scan, which picks where none is active
   at_command : s.remaining ≡ 0 → decide s ≡ move_prog s 0 s.streams

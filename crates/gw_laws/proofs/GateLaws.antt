@@ -1,6 +1,6 @@
 -- Nobody waits at a GATE whose condition holds: what a refused attempt read it waits for, and what is not written stays. And whoever
 -- waits so is at a TEST or a GATE without a label.
-use Rattle.std.proofs.Common.{◌≡◌, ℤ, pos, ℕ, zero, suc, Bool, true, false, cond, not, ◌||◌, List, [], ◌∷◌, ◌++◌, filter, Option, Some, None, is_some, nat_eq, nat_le, unwrap_or, Ok, refl, sym, ap, subst, ◌∙◌, inl, inr}
+use Rattle.std.proofs.Common.{◌≡◌, ℤ, pos, ℕ, Bool, true, false, cond, not, ◌||◌, List, [], ◌∷◌, ◌++◌, filter, Option, Some, None, is_some, nat_eq, nat_le, unwrap_or, Ok, refl, sym, ap, subst, ◌∙◌, inl, inr, arith}
 use Rattle.std.specs.Prelude.{Contains}
 use Rattle.std.specs.List.{AllByRecursion, list_any}
 use Rattle.std.proofs.lemmas.Bool.{cases_Bool, false≢true, or_parts, or_left, or_right, eqb-true}
@@ -51,12 +51,11 @@ use Rattle.gw_entities.specs.Records.{Ownership, never_owned, no_line, Store, ne
 use Rattle.gw_meaning.specs.Changes.{placed, marked, changed, written_by, written_in, entering, refused, watching, with_active, moved, written_where, written, is_woken, decided}
 use Rattle.gw_meaning.specs.Step.{for_one, is_open, kind_of_condition, reads_capacity, pass_or_wait, lead_to, go_to, gate_at, gate_storage, gate_other, gate_of, gate_prog, block_prog, meet_prog, decide, run}
 use Rattle.gw_frame.proofs.Moves.{settled, settled_is, linked_behind, split_is, with_active_has, picked_has}
-use Rattle.gw_frame.proofs.Running.{last_step}
+use Rattle.gw_frame.proofs.Running.{over_steps}
 use Rattle.gw_laws.specs.Destinations.{goes_to, IsTestOrGate, IsAtATestOrAGate}
 use Rattle.gw_laws.specs.Waiters.{named_key, key_written, capacity_of, NobodyWaitsAtAnOpenGate, WhoWaitsIsAtATestOrAGate}
 use Rattle.gw_laws.proofs.Waiting.{let_in_is}
 use Rattle.gw_laws.proofs.Linking.{chain_there, admitted_chain, unlinked_there}
-use Rattle.gw_laws.proofs.EndLaws.{went_on}
 use Rattle.gw_laws.proofs.Tried.{Comes, comes_gives, comes_ends, comes_asks, comes_bind, comes_then, comes_more, comes_any, changed_keeps}
 use Rattle.gw_laws.proofs.Entries.{at_with}
 use Rattle.gw_frame.proofs.Known.{WaitsAtVerb, IsAttempt, IsStep}
@@ -424,17 +423,6 @@ module _ (t : Listing) (seed : ℕ) (s : Machine) where
 
 -- ---- over a run
 
--- what each step's decision keeps, each run from zero has
-pub over_decided : (t : Listing) (seed : ℕ) (P : ℕ → Machine → Type 0) → P 0 zero_state →
-    ((n : ℕ) (s : Machine) (d : Move × List Stream) → run t seed n ≡ Ok s → result_of t seed (decide s) ≡ Ok d → P n s → P (suc n) (decided s d.0 d.1)) →
-    (n : ℕ) (s : Machine) → run t seed n ≡ Ok s → P n s
-over_decided t seed P start keeps zero s is = let same : zero_state ≡ s = cc in subst (P 0) same start
-over_decided t seed P start keeps (suc n) v is =
-    let last = last_step t seed n v is in
-    let went = went_on t seed last.before v last.goes in
-    subst (P (suc n)) (sym went.2)
-    (keeps n last.before went.0 last.there went.1 (over_decided t seed P start keeps n last.before last.there))
-
 -- what holds of each who waits, and of whoever comes, holds of each who waits behind a step
 pub all_wait_on : (P Q : Waiter → Type 0) (s : Machine) (m : Move) (streams : List Stream) → AllByRecursion P s.retry →
     AllByRecursion P (who_comes m s.active) → ((w : Waiter) → (Clears m → ⊥) → is_woken (written s m) w ≡ false → P w → Q w) →
@@ -503,11 +491,11 @@ who_comes_has P t seed s (moves.Watch read) each r =
 who_comes_has P t seed s m each r = tt
 
 gates_are_shut : (t : Listing) (seed n : ℕ) (s : Machine) → run t seed n ≡ Ok s → AllByRecursion (AtGate t s) s.retry
-gates_are_shut t seed =
-    over_decided t seed (λ n s. AllByRecursion (AtGate t s) s.retry) tt
-    (λ n s d there goes all. all_wait_on (AtGate t s) (AtGate t (decided s d.0 d.1)) s d.0 d.1 all
-    (who_comes_has (AtGate t s) t seed s d.0 (gate_refused t seed s) (refused_at t seed s d goes))
-    (gate_stays t s d.0 d.1))
+gates_are_shut t seed n s is =
+    over_steps t seed (λ n s. AllByRecursion (AtGate t s) s.retry) 0 zero_state refl tt
+    (λ n s m streams from there goes all. all_wait_on (AtGate t s) (AtGate t (decided s m streams)) s m streams all
+    (who_comes_has (AtGate t s) t seed s m (gate_refused t seed s) (refused_at t seed s (m, streams) goes))
+    (gate_stays t s m streams)) n s (omega arith) is
 
 pub nobody_waits_at_an_open_gate : NobodyWaitsAtAnOpenGate
 nobody_waits_at_an_open_gate t seed n s is w id b condition key waits goes there verb sort named =
@@ -527,10 +515,11 @@ abbrev IsThere : Listing → Waiter → Type 0
 IsThere t w = IsAtATestOrAGate t w.transaction
 
 all_there : (t : Listing) (seed n : ℕ) (s : Machine) → run t seed n ≡ Ok s → AllByRecursion (IsThere t) s.retry
-all_there t seed =
-    over_decided t seed (λ n s. AllByRecursion (IsThere t) s.retry) tt
-    (λ n s d there goes all. all_wait_on (IsThere t) (IsThere t) s d.0 d.1 all
-    (who_comes_has (IsThere t) t seed s d.0 (refused_there t seed s) (refused_at t seed s d goes)) (λ w apart unread is. is))
+all_there t seed n s is =
+    over_steps t seed (λ n s. AllByRecursion (IsThere t) s.retry) 0 zero_state refl tt
+    (λ n s m streams from there goes all. all_wait_on (IsThere t) (IsThere t) s m streams all
+    (who_comes_has (IsThere t) t seed s m (refused_there t seed s) (refused_at t seed s (m, streams) goes)) (λ w apart unread is. is))
+    n s (omega arith) is
 
 pub who_waits_is_at_a_test_or_a_gate : WhoWaitsIsAtATestOrAGate
 who_waits_is_at_a_test_or_a_gate t seed n s is w waits = all_stands (IsThere t) s.retry w (all_there t seed n s is) (stands_of s.retry w waits)

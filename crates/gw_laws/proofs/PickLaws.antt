@@ -3,22 +3,19 @@ use Rattle.std.proofs.Common.{◌≡◌, ℕ, ◌≤◌, ◌<◌, nat_le, true, 
 use Rattle.std.specs.Prelude.{Any}
 use Rattle.std.proofs.lemmas.Bool.{le-leb}
 use Rattle.std.proofs.lemmas.List.Elements.{All-from_recursion}
-use Rattle.gw_names.specs.declared.key.Key.{Key}
-use Rattle.gw_meaning.specs.declared.entity_change.Deed.{Deed}
 use Rattle.gw_meaning.specs.declared.moves.Change.{Change}
-use Rattle.gw_meaning.specs.declared.moves.Change.TheVariants as changes
 use Rattle.gw_meaning.specs.declared.moves.Fate.{Fate}
 use Rattle.gw_meaning.specs.declared.moves.Move.{Move}
 use Rattle.gw_meaning.specs.declared.moves.Move.TheVariants as moves
 use Rattle.gw_meaning.specs.declared.transaction.Transaction.{Transaction}
 use Rattle.gw_meaning.specs.declared.transaction.Event.{Event}
 use Rattle.gw_meaning.specs.Listing.{Listing}
-use Rattle.gw_meaning.specs.Machine.{Machine, delay_at}
-use Rattle.gw_meaning.specs.Changes.{deed_shares, some_let_in, one_let_in, admitted, changed, entering, refused, picked, moved, decided, watching}
+use Rattle.gw_meaning.specs.Machine.{Machine}
+use Rattle.gw_meaning.specs.Changes.{entering, refused, picked, moved, decided, watching}
 use Rattle.gw_meaning.specs.Questions.{result_of}
 use Rattle.gw_meaning.specs.Step.{least_time, within_prog, clock_prog, pick_prog, step}
 use Rattle.gw_meaning.proofs.Programs.{run_on}
-use Rattle.gw_frame.proofs.Moves.{settled, settled_is, split_is, unlink_is, with_active_has}
+use Rattle.gw_frame.proofs.Moves.{settled, settled_is, with_active_has}
 use Rattle.gw_laws.specs.Chain.{TheFirstIsPicked}
 use Rattle.gw_laws.specs.Clock.{IsLeast, ClockMovesOnlyWhenItMust, ClockMovesWhenItMust}
 use Rattle.gw_laws.proofs.Waiting.{let_in_is}

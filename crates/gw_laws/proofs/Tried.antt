@@ -1,5 +1,5 @@
 -- What an evaluation comes to, whatever it asks; what a block's change brings; and what each step of a run keeps.
-use Rattle.std.proofs.Common.{◌≡◌, ℕ, ℤ, zero, suc, List, [], ◌∷◌, Option, Some, None, Result, Ok, Err, refl, sym, subst, ◌∙◌}
+use Rattle.std.proofs.Common.{◌≡◌, ℕ, ℤ, List, [], ◌∷◌, Option, Some, None, Result, Ok, Err, refl, sym, subst, ◌∙◌, arith}
 use Rattle.gw_streams.specs.declared.stream.Stream.{Stream}
 use Rattle.gw_names.specs.declared.key.Key.{Key}
 use Rattle.gw_entities.specs.Parameters.{values_at}
@@ -19,7 +19,8 @@ use Rattle.gw_meaning.specs.Evaluation.{Eval, gives, ends_with, asks, ◌~>◌}
 use Rattle.gw_meaning.specs.Step.{run}
 use Rattle.gw_meaning.proofs.Programs.{bind_gives, bind_ends}
 use Rattle.gw_frame.proofs.Moves.{LetsIn, some_have, all_copied_keep, some_unlinked_keep}
-use Rattle.gw_frame.proofs.Running.{last_step}
+use Rattle.gw_frame.proofs.Running.{over_steps}
+use Rattle.gw_frame.proofs.Decided.{move_is_step}
 use Rattle.gw_frame.proofs.Known.{IsStep}
 
 -- what an evaluation comes to, from any streams, has the property Q
@@ -94,8 +95,6 @@ changed_keeps Q change v keep h = h
 pub over_moves : (t : Listing) (seed : ℕ) (P : Machine → Type 0) → P zero_state →
     ((s : Machine) (m : Move) (streams : List Stream) → IsStep t seed s m → P s → P (decided s m streams)) →
     (n : ℕ) (s : Machine) → run t seed n ≡ Ok s → P s
-over_moves t seed P start keeps zero s is = let same : zero_state ≡ s = cc in subst P same start
-over_moves t seed P start keeps (suc n) v is =
-    let last = last_step t seed n v is in
-    let after = last.after in
-    subst P (sym after.is) (keeps last.before after.move after.streams after.is_step (over_moves t seed P start keeps n last.before last.there))
+over_moves t seed P start keeps n s is =
+    over_steps t seed (λ n v. P v) 0 zero_state refl start
+    (λ n u m streams from there goes h. keeps u m streams (move_is_step t seed u u.streams (m, streams) goes) h) n s (omega arith) is

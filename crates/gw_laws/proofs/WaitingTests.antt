@@ -1,5 +1,5 @@
 -- Nobody waits at a TEST that holds: what its attempt read and nobody wrote since replies as it did.
-use Rattle.std.proofs.Common.{◌≡◌, ◌⊎◌, ℤ, pos, ℕ, zero, suc, ◌-◌, ◌^◌, ◌<◌, ◌≤◌, length, Bool, true, false, cond, nat_eq, ◌||◌, List, [], ◌∷◌, ◌++◌, Option, Some, None, unwrap_or, Result, Ok, Err, refl, sym, ap, ap₂, subst, ◌∙◌, inl, inr, arith}
+use Rattle.std.proofs.Common.{◌≡◌, ◌⊎◌, ℤ, pos, ℕ, ◌-◌, ◌^◌, ◌<◌, ◌≤◌, length, Bool, true, false, cond, nat_eq, ◌||◌, List, [], ◌∷◌, ◌++◌, Option, Some, None, unwrap_or, Result, Ok, Err, refl, sym, ap, ap₂, subst, ◌∙◌, inl, inr, arith}
 use Rattle.std.specs.Prelude.{Contains}
 use Rattle.std.specs.List.{AllByRecursion}
 use Rattle.std.proofs.lemmas.Bool.{cases_lt, or_parts, or_left, eq-eqb, and_parts, false≢true}
@@ -45,7 +45,7 @@ use Rattle.gw_meaning.specs.Machine.{Machine, UserChain, zero_state, count_at, d
 use Rattle.gw_meaning.specs.Questions.{result_of}
 use Rattle.gw_meaning.specs.Evaluation.{Eval, gives, asks, ◌~>◌, amount, numbered, subject_prog, defined_prog, left_prog, counted, block_count, owned, one_if, value_held, parameter_value, value_there, entity_value, table_value, attribute_prog, reply_prog, evaluated, entity_watched, defined_watched, counts_of, counts_watched, watched_prog, watched_by, traced, value_traced}
 use Rattle.gw_meaning.specs.Changes.{placed, all_copied, written_in, Making, made, maybe_made, all_made, making_of, deed_shares, let_in, one_let_in, some_let_in, changed, entering, refused, watching, with_active, moved, crossing, crossings, written_by, written_where, written, is_woken, decided}
-use Rattle.gw_meaning.specs.Step.{for_one, holds, test_prog, block_prog, decide, run}
+use Rattle.gw_meaning.specs.Step.{for_one, holds, test_prog, block_prog, run}
 use Rattle.gw_meaning.proofs.Traces as alone
 use Rattle.gw_meaning.proofs.Programs.{bind_gives}
 use Rattle.gw_frame.proofs.Moves.{settled, settled_is, marked_same, still_active, all_copied_keep, unlink_is, with_active_has, picked_has}
@@ -67,8 +67,8 @@ use Rattle.gw_laws.proofs.GateLaws.{kept_of, SameEntity, KeptEntity, moved_entit
 use Rattle.gw_laws.proofs.Anew.{count_reset, no_reset_decided}
 use Rattle.gw_laws.specs.Anew.{Resets, Clears, NoneBetween}
 use Rattle.gw_meaning.specs.declared.statement.Command.TheVariants as commands
-use Rattle.gw_frame.proofs.Running.{last_step}
-use Rattle.gw_laws.proofs.EndLaws.{went_on, ends_for_good}
+use Rattle.gw_frame.proofs.Running.{over_steps}
+use Rattle.gw_laws.proofs.EndLaws.{ends_for_good}
 
 -- what lasts through a RESET, lasts
 does_last : (resets : Bool) (class : Class) → lasts_through resets class ≡ true → is_lasting class ≡ true
@@ -599,29 +599,6 @@ test_stays resets t seed s m streams none w apart unread tested = λ id b first 
       still_came resets t seed s u w.read w.transaction stays (operands.value_of second) h.1 h.4,
     ))
 
--- what a state of a run has and each decision behind it keeps, each later state has
-over_later : (t : Listing) (seed : ℕ) (P : ℕ → Machine → Type 0) (m : ℕ) (start : Machine) → run t seed m ≡ Ok start → P m start →
-    ((n : ℕ) (s : Machine) (d : Move × List Stream) → m ≤ n → run t seed n ≡ Ok s → result_of t seed (decide s) ≡ Ok d → P n s →
-    P (suc n) (decided s d.0 d.1)) →
-    (n : ℕ) (s : Machine) → m ≤ n → run t seed n ≡ Ok s → P n s
-over_later t seed P m start at first keeps zero v before is = let same : m ≡ zero = omega arith in here same where
-  here : m ≡ zero → P zero v
-  here same = let both : Ok start ≡ Ok v = sym at ∙ (ap (run t seed) same ∙ is) in let states : start ≡ v = cc in
-      subst (λ k. P k v) same (subst (P m) states first)
-over_later t seed P m start at first keeps (suc n) v before is =
-    elim (cases_lt n m) [
-      | inl late ↦ here (omega arith)
-      | inr early ↦
-          let last = last_step t seed n v is in
-          let went = went_on t seed last.before v last.goes in
-          subst (P (suc n)) (sym went.2)
-          (keeps n last.before went.0 early last.there went.1 (over_later t seed P m start at first keeps n last.before early last.there))
-    ]
-  where
-    here : m ≡ suc n → P (suc n) v
-    here same = let both : Ok start ≡ Ok v = sym at ∙ (ap (run t seed) same ∙ is) in let states : start ≡ v = cc in
-        subst (λ k. P k v) same (subst (P m) states first)
-
 each_stands : (Q : Waiter → Type 0) (ws : List Waiter) → ((w : Waiter) → Stands ws w → Q w) → AllByRecursion Q ws
 each_stands Q [] each = tt
 each_stands Q (w ∷ ws) each = (each w (inl refl), each_stands Q ws (λ v there. each v (inr there)))
@@ -649,21 +626,21 @@ module _ (resets : Bool) (t : Listing) (seed : ℕ) (well : Well t) (m : ℕ) (s
   tests_fail : run t seed m ≡ Ok start → (n : ℕ) (s : Machine) → m ≤ n → run t seed n ≡ Ok s → n ≤ t.limit → NoReset n →
       AllByRecursion (CameOr s) s.retry
   tests_fail at =
-      over_later t seed (λ n s. n ≤ t.limit → NoReset n → AllByRecursion (CameOr s) s.retry) m start at
+      over_steps t seed (λ n s. n ≤ t.limit → NoReset n → AllByRecursion (CameOr s) s.retry) m start at
       (λ within none. each_stands (CameOr start) start.retry (λ w stands. inl (contains_of start.retry w stands)))
-      (λ n s d from there goes all within none.
+      (λ n s move streams from there goes all within none.
       let early : n ≤ t.limit = omega (arith, within) in
       let numbered = all_numbered t seed well n s there early in
-      let own : (w : Waiter) → Stands s.retry w → (Clears d.0 → ⊥) → OwnStays s d.0 w =
-      λ w stands apart. waiting_own t s d.0 w (all_low t seed n s there) (is_decided t seed s d goes) apart numbered (contains_of s.retry w stands) in
+      let own : (w : Waiter) → Stands s.retry w → (Clears move → ⊥) → OwnStays s move w =
+      λ w stands apart. waiting_own t s move w (all_low t seed n s there) (is_decided t seed s (move, streams) goes) apart numbered (contains_of s.retry w stands) in
       let earlier : NoReset n = λ never k u start' below. none never k u start' (omega (arith, below)) in
-      let no_reset : resets ≡ false → Resets d.0 → ⊥ =
-      λ never. no_reset_decided t s d.0 (is_decided t seed s d goes) (none never n s from (omega arith) there) in
-      all_wait_on (CameOrTested s d.0) (CameOr (decided s d.0 d.1)) s d.0 d.1
-      (each_tested (CameOr s) (λ w. (Clears d.0 → ⊥) → OwnStays s d.0 w) s.retry own (all early earlier))
-      (each_more (Tested resets t seed s d.0) (CameOrTested s d.0) (who_comes d.0 s.active) (λ w tested. (inr tested.0, tested.1))
-      (coming_tested resets t seed s d.0 (refused_at t seed s d goes)))
-      (came_stays s d.0 d.1 no_reset))
+      let no_reset : resets ≡ false → Resets move → ⊥ =
+      λ never. no_reset_decided t s move (is_decided t seed s (move, streams) goes) (none never n s from (omega arith) there) in
+      all_wait_on (CameOrTested s move) (CameOr (decided s move streams)) s move streams
+      (each_tested (CameOr s) (λ w. (Clears move → ⊥) → OwnStays s move w) s.retry own (all early earlier))
+      (each_more (Tested resets t seed s move) (CameOrTested s move) (who_comes move s.active) (λ w tested. (inr tested.0, tested.1))
+      (coming_tested resets t seed s move (refused_at t seed s (move, streams) goes)))
+      (came_stays s move streams no_reset))
 
 -- a run that came so far came to a state before
 state_before : (t : Listing) (seed m n : ℕ) (s : Machine) → m ≤ n → run t seed n ≡ Ok s → (u : Machine) × (run t seed m ≡ Ok u)
