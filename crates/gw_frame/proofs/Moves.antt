@@ -73,37 +73,7 @@ settled_is s x id change fates.Active = record {
   counts = refl;
   entities = refl;
 }
-settled_is s x id change fates.Current = record {
-  clock = refl;
-  next = refl;
-  current = refl;
-  delays = refl;
-  retry = refl;
-  linked = refl;
-  counts = refl;
-  entities = refl;
-}
-settled_is s x id change (fates.Delayed until) = record {
-  clock = refl;
-  next = refl;
-  current = refl;
-  delays = refl;
-  retry = refl;
-  linked = refl;
-  counts = refl;
-  entities = refl;
-}
-settled_is s x id change (fates.Linked key discipline) = record {
-  clock = refl;
-  next = refl;
-  current = refl;
-  delays = refl;
-  retry = refl;
-  linked = refl;
-  counts = refl;
-  entities = refl;
-}
-settled_is s x id change (fates.Destroyed count) = record {
+settled_is s x id change fate = record {
   clock = refl;
   next = refl;
   current = refl;
