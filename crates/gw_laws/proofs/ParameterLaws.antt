@@ -27,7 +27,7 @@ use Rattle.gw_laws.proofs.Crowd.{one, remains, active_crowd, settled_crowd, refu
 use Rattle.gw_laws.proofs.NumberLaws.{has_number, lets_same}
 use Rattle.gw_laws.proofs.Waiting.{leaving}
 use Rattle.gw_laws.proofs.LossLaws.{Lives, made_lives, all_made_lives, lives_here}
-use Rattle.gw_laws.proofs.Anew.{crowd_reset}
+use Rattle.gw_laws.proofs.Anew.{all_stay}
 
 abbrev pub Values : Type 0
 Values = List (Key × ℤ)
@@ -181,9 +181,6 @@ all_made_parameters arrivals w s = refl
 moved_kept : (t : Listing) (s : Machine) (m : Move) → IsDecided t s m → AreKept s → AreKept (moved s m)
 moved_kept t s (moves.Start count arrivals) decided h =
     same_kept s (moved s (moves.Start count arrivals)) refl (λ k lived. all_made_lives k arrivals (making_of s) (started count s) lived) h
-moved_kept t s moves.Command decided h = same_kept s (moved s moves.Command) refl (λ k lived. lived) h
-moved_kept t s moves.Reset decided h =
-    same_kept s (moved s moves.Reset) refl (λ k lived. let same = crowd_reset (has_number k) s in omega arith) h
 moved_kept t s moves.Clear decided h = record { alive = λ k some. absurd (omega arith) }
 moved_kept t s (moves.Enter id change fate) decided h =
     entered_has AreKept AreKept t s id change fate decided.1 h (λ x is. settled_kept s x id change is h fate)
@@ -198,18 +195,9 @@ moved_kept t s (moves.Enter id change fate) decided h =
           same_kept w (one_unlinked key to x xs w) refl
           (λ k lived. let same = unlinked_crowd (has_number k) w key to x xs is refl in omega arith) g;
     })
-moved_kept t s (moves.Refuse id key units) decided h =
-    with_active_has AreKept s.active (λ x. refused s x id key units) s h
-    (λ x is. same_kept s (refused s x id key units) refl
-    (λ k lived. let same = refused_crowd (has_number k) s x id key units is refl in omega arith) h)
-moved_kept t s (moves.Watch read) decided h =
-    with_active_has AreKept s.active (λ x. watching s x read) s h
-    (λ x is. same_kept s (watching s x read) refl (λ k lived. let same = watching_crowd (has_number k) s x read is in omega arith) h)
-moved_kept t s moves.Pick decided h =
-    picked_has AreKept s s.current h
-    (λ x xs is. same_kept s (picked s (x ∷ xs)) refl (λ k lived. let same = picked_crowd (has_number k) s x xs decided is in omega arith) h)
-moved_kept t s (moves.Clock time) decided h =
-    same_kept s (moved s (moves.Clock time)) refl (λ k lived. let same = advanced_crowd (has_number k) s time in omega arith) h
+moved_kept t s m decided h =
+    same_kept s (moved s m) (all_stay (λ x. true) t s m decided tt (λ x id units. refl)).parameters
+    (λ k lived. let same = (all_stay (has_number k) t s m decided tt (λ x id units. refl)).crowd in omega arith) h
 
 -- over a run
 pub all_kept : (t : Listing) (seed n : ℕ) (s : Machine) → run t seed n ≡ Ok s → AreKept s
