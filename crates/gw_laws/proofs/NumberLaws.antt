@@ -14,20 +14,19 @@ use Rattle.gw_meaning.specs.declared.moves.Move.{Move}
 use Rattle.gw_meaning.specs.declared.moves.Move.TheVariants as moves
 use Rattle.gw_meaning.specs.Listing.{Listing}
 use Rattle.gw_meaning.specs.Machine.{Machine, delay_at, user_chain_at}
-use Rattle.gw_meaning.specs.Changes.{Making, made, all_made, making_of, with_making, newcomer, placed, marked, started, one_let_in, copied, one_copied, sent, one_unlinked, bound, refused, moved, watching, written, woken}
+use Rattle.gw_meaning.specs.Changes.{Making, made, all_made, making_of, with_making, newcomer, placed, marked, started, one_let_in, copied, one_copied, sent, one_unlinked, bound, moved, written, woken}
 use Rattle.gw_meaning.specs.Step.{run}
 use Rattle.gw_meaning.specs.declared.watched.Watched.{Watched}
 use Rattle.gw_model.specs.Well.{Well}
 use Rattle.gw_laws.specs.Living.{living}
 use Rattle.gw_laws.specs.Numbering.{NumbersAreApart, NumbersAreGiven, NumbersAreGivenOnce}
 use Rattle.gw_frame.proofs.Known.{IsDecided}
-use Rattle.gw_frame.proofs.Moves.{settled, settled_is, marked_same, with_active_has, entered_has, picked_has}
+use Rattle.gw_frame.proofs.Moves.{settled, settled_is, marked_same, entered_has}
 use Rattle.gw_frame.proofs.Running.{over_run, over_rest}
 use Rattle.gw_laws.proofs.Waiting.{let_in_as, let_in_number, let_in_is}
-use Rattle.gw_laws.proofs.Crowd.{one, many, crowd, many_living, future_push, settled_fewer, refused_crowd, lets_crowd, copied_crowd, unlinked_crowd, picked_crowd, advanced_crowd, watching_crowd, woken_crowd}
+use Rattle.gw_laws.proofs.Crowd.{one, many, crowd, many_living, future_push, settled_fewer, lets_crowd, copied_crowd, unlinked_crowd, woken_crowd}
 use Rattle.gw_laws.proofs.Room.{all_within}
 use Rattle.gw_laws.proofs.Anew.{all_stay, no_clear}
-use Rattle.gw_meaning.specs.Changes.{reset}
 use Rattle.gw_laws.specs.Anew.{Clears}
 
 abbrev pub has_number : ℕ → Transaction → Bool

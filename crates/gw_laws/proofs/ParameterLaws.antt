@@ -17,13 +17,13 @@ use Rattle.gw_meaning.specs.declared.moves.Move.{Move}
 use Rattle.gw_meaning.specs.declared.moves.Move.TheVariants as moves
 use Rattle.gw_meaning.specs.Listing.{Listing}
 use Rattle.gw_meaning.specs.Machine.{Machine}
-use Rattle.gw_meaning.specs.Changes.{Making, made, all_made, picked, making_of, with_making, placed, marked, held_by, started, let_in, one_let_in, copied, one_copied, one_unlinked, refused, moved, watching, written, woken}
+use Rattle.gw_meaning.specs.Changes.{Making, made, all_made, making_of, with_making, placed, marked, held_by, started, let_in, one_let_in, copied, one_copied, one_unlinked, moved, written, woken}
 use Rattle.gw_meaning.specs.Step.{run}
 use Rattle.gw_laws.specs.Parameters.{ParametersAreOfTheLiving}
 use Rattle.gw_frame.proofs.Known.{IsDecided}
-use Rattle.gw_frame.proofs.Moves.{settled, marked_same, with_active_has, entered_has, picked_has}
+use Rattle.gw_frame.proofs.Moves.{settled, marked_same, entered_has}
 use Rattle.gw_frame.proofs.Running.{over_run}
-use Rattle.gw_laws.proofs.Crowd.{one, remains, active_crowd, settled_crowd, refused_crowd, copied_crowd, unlinked_crowd, picked_crowd, advanced_crowd, watching_crowd, woken_crowd}
+use Rattle.gw_laws.proofs.Crowd.{one, remains, active_crowd, settled_crowd, copied_crowd, unlinked_crowd, woken_crowd}
 use Rattle.gw_laws.proofs.NumberLaws.{has_number, lets_same}
 use Rattle.gw_laws.proofs.Waiting.{leaving}
 use Rattle.gw_laws.proofs.LossLaws.{Lives, made_lives, all_made_lives, lives_here}

@@ -13,7 +13,7 @@ use Rattle.gw_frame.proofs.Known.{IsDecided}
 use Rattle.gw_frame.proofs.Moves.{settled, settled_is, with_active_has, entered_has, picked_has}
 use Rattle.gw_frame.proofs.Running.{over_run}
 use Rattle.gw_laws.proofs.Waiting.{let_in_is}
-use Rattle.gw_laws.proofs.Crowd.{crowd, future_push, settled_fewer, refused_crowd, lets_crowd, copied_crowd, unlinked_crowd, picked_crowd, advanced_crowd, watching_crowd, woken_crowd}
+use Rattle.gw_laws.proofs.Crowd.{crowd, future_push, settled_fewer, lets_crowd, copied_crowd, unlinked_crowd, woken_crowd}
 use Rattle.gw_laws.proofs.Anew.{all_stay}
 
 abbrev pub anyone : Transaction → Bool
