@@ -199,12 +199,14 @@ pub lawful_ends : {A B : Type 0} {t : Listing} {seed : ℕ} {move : ℕ → ℕ}
     Lawful t seed move D I IsError f Q (ends_with (ends.Error stop)) (ends_with (ends.Error stop))
 lawful_ends = lawful_end tt
 
-pub lawful_unless : {A B : Type 0} {t : Listing} {seed : ℕ} {move : ℕ → ℕ} {D : Type 0} {I : Item → Type 0} {f : A → B} {Q : A → Type 0} (b : Bool) (stop : Stop)
+pub lawful_unless : {A B : Type 0} {t : Listing} {seed : ℕ} {move : ℕ → ℕ} {D : Type 0} {I : Item → Type 0} {f : A → B} {Q : A → Type 0}
+    (b : Bool) (stop : Stop)
     {p : Eval A} {q : Eval B} → (b ≡ false → Lawful t seed move D I IsError f Q p q) →
     Lawful t seed move D I IsError f Q (stops_if b stop p) (stops_if b stop q)
 lawful_unless true stop h = lawful_ends
 lawful_unless false stop h = h refl
 
-pub lawful_stops : {A B : Type 0} {t : Listing} {seed : ℕ} {move : ℕ → ℕ} {D : Type 0} {I : Item → Type 0} {f : A → B} {Q : A → Type 0} (b : Bool) (stop : Stop)
+pub lawful_stops : {A B : Type 0} {t : Listing} {seed : ℕ} {move : ℕ → ℕ} {D : Type 0} {I : Item → Type 0} {f : A → B} {Q : A → Type 0}
+    (b : Bool) (stop : Stop)
     {p : Eval A} {q : Eval B} → Lawful t seed move D I IsError f Q p q → Lawful t seed move D I IsError f Q (stops_if b stop p) (stops_if b stop q)
 lawful_stops b stop h = lawful_unless b stop (λ is. h)

@@ -159,18 +159,27 @@ pub record AllStay (test : Transaction → Bool) (s v : Machine) : Type 0 where
   pub contents : (id : ℕ) → (count_at v.counts id).content ≡ (count_at s.counts id).content
   pub crowd : crowd test v ≡ crowd test s
 
+itself : (test : Transaction → Bool) (s : Machine) → AllStay test s s
+itself test s = record { next = refl; parameters = refl; contents = λ id. refl; crowd = refl }
+
 pub all_stay : (test : Transaction → Bool) (t : Listing) (s : Machine) (m : Move) → IsDecided t s m → KeepsAll m →
     ((x : Transaction) (id units : ℕ) → test (bound x id units) ≡ test x) → AllStay test s (moved s m)
 all_stay test t s moves.Command decided keeps waits = record { next = refl; parameters = refl; contents = λ id. refl; crowd = refl }
-all_stay test t s moves.Reset decided keeps waits = record { next = refl; parameters = refl; contents = λ id. ap (λ (c : Count). c.content) (count_reset s id); crowd = crowd_reset test s }
+all_stay test t s moves.Reset decided keeps waits = record {
+  next = refl;
+  parameters = refl;
+  contents = λ id. ap (λ (c : Count). c.content) (count_reset s id);
+  crowd = crowd_reset test s;
+}
 all_stay test t s (moves.Refuse id key units) decided keeps waits =
-    with_active_has (AllStay test s) s.active (λ x. refused s x id key units) s (record { next = refl; parameters = refl; contents = λ id. refl; crowd = refl })
+    with_active_has (AllStay test s) s.active (λ x. refused s x id key units) s (itself test s)
     (λ x is. record { next = refl; parameters = refl; contents = λ id. refl; crowd = refused_crowd test s x id key units is (waits x id units) })
 all_stay test t s (moves.Watch read) decided keeps waits =
-    with_active_has (AllStay test s) s.active (λ x. watching s x read) s (record { next = refl; parameters = refl; contents = λ id. refl; crowd = refl })
+    with_active_has (AllStay test s) s.active (λ x. watching s x read) s (itself test s)
     (λ x is. record { next = refl; parameters = refl; contents = λ id. refl; crowd = watching_crowd test s x read is })
 all_stay test t s moves.Pick decided keeps waits =
-    picked_has (AllStay test s) s s.current (record { next = refl; parameters = refl; contents = λ id. refl; crowd = refl })
+    picked_has (AllStay test s) s s.current (itself test s)
     (λ x xs is. record { next = refl; parameters = refl; contents = λ id. refl; crowd = picked_crowd test s x xs decided is })
-all_stay test t s (moves.Clock time) decided keeps waits = record { next = refl; parameters = refl; contents = λ id. refl; crowd = advanced_crowd test s time }
+all_stay test t s (moves.Clock time) decided keeps waits =
+    record { next = refl; parameters = refl; contents = λ id. refl; crowd = advanced_crowd test s time }
 all_stay test t s m decided keeps waits = absurd keeps
