@@ -69,7 +69,7 @@ IsQuiet (AttributeOf class of) = draws class ≡ false
 IsQuiet (PartOf of) = ⊥
 IsQuiet question = Unit {0}
 
--- a state of a version, and how ids move
+-- a state of a version; its twin is the same state with its ids moved
 pub record Twins : Type 0 where
   pub version : Listing
   pub seed : ℕ
@@ -90,7 +90,6 @@ module _ (twins : Twins) where
   abbrev pub move : ℕ → ℕ
   move = twins.move
 
-  -- the moved state
   abbrev pub twin : Machine
   twin = moved_machine move s
 
