@@ -1,5 +1,5 @@
 -- What is known of a move in the state in which it is decided: one line for each choice.
-use Rattle.std.proofs.Common.{◌≡◌, ℕ, ◌+◌, ◌≤◌, nat_le, Bool, true, false, ◌&&◌, List, [], ◌∷◌, length, Option, Some, None, is_some, ◌-◌, arith}
+use Rattle.std.proofs.Common.{◌≡◌, ◌⊎◌, inr, ℕ, ◌+◌, ◌≤◌, nat_le, Bool, true, false, ◌&&◌, List, [], ◌∷◌, length, Option, Some, None, Ok, is_some, ◌-◌, sym, subst, arith}
 use Rattle.std.specs.List.{AllByRecursion}
 use Rattle.std.proofs.lemmas.Bool.Decides.{nat_tests}
 use Rattle.gw_streams.specs.declared.stream.Stream.{Stream}
@@ -27,7 +27,17 @@ use Rattle.gw_entities.specs.Records.{Line}
 use Rattle.gw_meaning.specs.Entities.{facility_at, line_at}
 use Rattle.gw_meaning.specs.Machine.{Machine, raised, live, delay_at, user_chain_at}
 use Rattle.gw_meaning.specs.Changes.{decided}
-use Rattle.gw_meaning.specs.Step.{is_too_many, first_number, is_owner, least_time}
+use Rattle.gw_meaning.specs.Step.{is_too_many, first_number, is_owner, least_time, meet_prog, decide}
+use Rattle.gw_meaning.specs.Questions.{result_of}
+use Rattle.gw_meaning.specs.Statements.{B, C, operand}
+use Rattle.gw_meaning.specs.Listing.{block_at, after_at, or_next}
+use Rattle.gw_meaning.specs.declared.statement.Block.{Block}
+use Rattle.gw_expr.specs.declared.halt.End.{End}
+use Rattle.gw_expr.specs.declared.halt.End.TheVariants as ends
+use Rattle.gw_names.specs.declared.verb.BlockVerb.{BlockVerb}
+use Rattle.gw_names.specs.declared.verb.BlockVerb.TheVariants as blocks
+use Rattle.gw_expr.specs.declared.expr.Discipline.{Discipline}
+use Rattle.gw_expr.specs.Term.{Order}
 use Rattle.gw_frame.specs.BlockIds.{IsBlockId, IsIdIfAny, WatchedNames, ActiveNames, ItemNames}
 use Rattle.gw_names.specs.declared.key.Key.TheVariants as keys
 use Rattle.gw_meaning.specs.Listing.{capacity_at, command_at}
@@ -82,8 +92,8 @@ pub record ComesIn (t : Listing) (s : Machine) (key : Key) (units : ℕ) : Type 
   pub fits : does_fit t name (beside units (store_at s.entities key).level.content) ≡ true
   pub entries : (store_at s.entities key).entries + units ≤ 1000000000
 
--- a storage has the units in use that are given back, and those who wait have the shares that fit; its entries stay within
--- the limit of counts
+-- a storage has the units in use that are given back, and those who wait have the shares that fit; its entries stay
+-- within the limit of counts
 pub record GoesOut (t : Listing) (s : Machine) (key : Key) (units : ℕ) (shares : List (Option ℕ)) : Type 0 where
   pub name : List ℕ
   pub named : key ≡ keys.Defined name
@@ -171,13 +181,117 @@ IsDecided t s (moves.Watch read) = AreWatched t read
 IsDecided t s moves.Pick = s.active ≡ None
 IsDecided t s (moves.Clock time) = (least_time s.future ≡ Some time) × (nat_le time t.horizon ≡ true)
 
--- what is known of an item that is read: where the statements have numbers of their own, it names no id but those of blocks
+-- what is known of an item that is read: where the statements have numbers of their own, it names no id but those of
+-- blocks
 abbrev pub IsRead : Listing → Machine → Item → Type 0
 IsRead t s i = AreNumbered t.lines → ActiveNames t s.active → ItemNames t i
 
+-- ---- a block that is tried
+
+-- a block at which whoever waits for a change may wait: a TEST or a GATE without a label
+abbrev pub WaitsAtVerb : Block → BlockVerb → Type 0
+WaitsAtVerb b blocks.Test = operand b C ≡ None
+WaitsAtVerb b blocks.Gate = operand b B ≡ None
+WaitsAtVerb b verb = ⊥
+
+abbrev pub WaitsAtBlock : Option Block → Type 0
+WaitsAtBlock None = ⊥
+WaitsAtBlock (Some b) = WaitsAtVerb b b.verb
+
+-- the discipline by which a block links: a LINK by that of its operand
+abbrev pub LinksAtVerb : Block → BlockVerb → Discipline → Type 0
+LinksAtVerb b blocks.Link discipline = operand b B ≡ Some (Order discipline)
+LinksAtVerb b verb discipline = ⊥
+
+abbrev pub LinksAtBlock : Option Block → Discipline → Type 0
+LinksAtBlock None discipline = ⊥
+LinksAtBlock (Some b) discipline = LinksAtVerb b b.verb discipline
+
+abbrev pub never : Discipline → Type 0
+never discipline = ⊥
+
+-- where a transaction is linked, the discipline has the property L
+abbrev pub LinksBy : (Discipline → Type 0) → Fate → Type 0
+LinksBy L (fates.Linked key discipline) = L discipline
+LinksBy L fate = Unit {0}
+
+-- the block at id is entered, or refuses, or its transaction waits for a change as it came, and then it has the
+-- property P
+abbrev pub IsTried : Listing → Machine → Type 0 → (Discipline → Type 0) → ℕ → Move → Type 0
+IsTried t s P L id (moves.Enter to change fate) = (to ≡ id) × LinksBy L fate × IsDecidedChange t s change × IsDecidedFate s change fate
+IsTried t s P L id (moves.Refuse to key units) = (to ≡ id) × IsRefused t s key units
+IsTried t s P L id (moves.Watch read) = P × AreWatched t read
+IsTried t s P L id move = ⊥
+
+-- the active transaction tries the block to which it goes, and this comes of it
+pub record IsAttempt (t : Listing) (seed : ℕ) (s : Machine) (m : Move) : Type 0 where
+  pub who : Transaction
+  pub active : s.active ≡ Some who
+  pub id : ℕ
+  pub goes : or_next who.destination (after_at t who.current) ≡ Some id
+  pub block : Block
+  pub there : block_at t id ≡ Some block
+  pub before : List Stream
+  pub after : List Stream
+  pub comes : result_of t seed (meet_prog s who id (Some block) before) ≡ Ok (m, after)
+  pub tried : IsTried t s (WaitsAtBlock (Some block)) (LinksAtBlock (Some block)) id m
+
+-- ---- a step
+
+-- a START is under way, and nobody is active or on the current chain
+pub record NobodyMoves (s : Machine) : Type 0 where
+  pub started : 1 ≤ s.remaining
+  pub active : s.active ≡ None
+  pub current : s.current ≡ []
+
+-- what a step does: a command, an attempt, or it picks one or moves the clock
+abbrev pub IsStep : Listing → ℕ → Machine → Move → Type 0
+IsStep t seed s (moves.Start count arrivals) = IsNext t s (commands.Start count) × AreFirst t s arrivals
+IsStep t seed s moves.Command = (values : List (Option ℕ)) × IsNext t s (commands.Rmult values)
+IsStep t seed s moves.Reset = IsNext t s commands.Reset
+IsStep t seed s moves.Clear = IsNext t s commands.Clear
+IsStep t seed s moves.Pick = (1 ≤ s.remaining) × (s.active ≡ None)
+IsStep t seed s (moves.Clock time) = NobodyMoves s × (least_time s.future ≡ Some time) × (nat_le time t.horizon ≡ true)
+IsStep t seed s move = (1 ≤ s.remaining) × IsAttempt t seed s move
+
+-- why there is none: no command is left, nobody will move, the clock would go beyond the horizon; and an error comes in
+-- an attempt, or where a START makes the first transactions
+abbrev pub IsEnd : Listing → Machine → End → Type 0
+IsEnd t s ends.CommandsDone = (s.remaining ≡ 0) × (command_at t (raised s.commands) ≡ None)
+IsEnd t s ends.Dry = NobodyMoves s × (least_time s.future ≡ None)
+IsEnd t s ends.Horizon = NobodyMoves s × (time : ℕ) × (least_time s.future ≡ Some time) × (nat_le time t.horizon ≡ false)
+IsEnd t s (ends.Error stop) =
+    ((1 ≤ s.remaining) × (x : Transaction) × (s.active ≡ Some x))
+    ⊎ ((count : ℕ) × (s.primed ≡ false) × IsNext t s (commands.Start count))
+
+module _ (t : Listing) (seed : ℕ) (s : Machine) where
+  pub attempt_step : (m : Move) → 1 ≤ s.remaining → IsAttempt t seed s m → IsStep t seed s m
+  attempt_step (moves.Enter id change fate) started a = (started, a)
+  attempt_step (moves.Refuse id key units) started a = (started, a)
+  attempt_step (moves.Watch read) started a = (started, a)
+  attempt_step m started a = absurd a.tried
+
+  is_block : (id to : ℕ) (b : Block) → block_at t id ≡ Some b → to ≡ id → IsBlockId t to
+  is_block id to b there same = subst (IsBlockId t) (sym same) (inr (b, there))
+
+  pub step_is_decided : (m : Move) → IsStep t seed s m → IsDecided t s m
+  step_is_decided (moves.Start count arrivals) h = h.1
+  step_is_decided moves.Command h = tt
+  step_is_decided moves.Reset h = h
+  step_is_decided moves.Clear h = h
+  step_is_decided (moves.Enter to change fate) h =
+      let tried = h.1.tried in (is_block h.1.id to h.1.block h.1.there tried.0, tried.2, tried.3)
+  step_is_decided (moves.Refuse to key units) h =
+      let tried = h.1.tried in (is_block h.1.id to h.1.block h.1.there tried.0, tried.1)
+  step_is_decided (moves.Watch read) h = h.1.tried.1
+  step_is_decided moves.Pick h = h.1
+  step_is_decided (moves.Clock time) h = (h.1, h.2)
+
 -- what is known of the state after a step
-pub record IsAfter (t : Listing) (s v : Machine) : Type 0 where
+pub record IsAfter (t : Listing) (seed : ℕ) (s v : Machine) : Type 0 where
   pub move : Move
   pub streams : List Stream
+  pub goes : result_of t seed (decide s) ≡ Ok (move, streams)
+  pub is_step : IsStep t seed s move
   pub is_decided : IsDecided t s move
   pub is : v ≡ decided s move streams

@@ -92,10 +92,7 @@ module _ (move : ℕ → ℕ) (is : IsMove move) where
   own_moved : (change : TransactionChange) (clock : ℕ) (x : Transaction) →
       own_marked (moved_own move change) clock (moved_transaction move x) ≡ moved_transaction move (own_marked change clock x)
   own_moved own.Mark clock x = refl
-  own_moved (own.Priority to) clock x = refl
-  own_moved (own.Transfer to) clock x = refl
-  own_moved (own.Assign key to) clock x = refl
-  own_moved (own.Loop key left to) clock x = refl
+  own_moved change clock x = refl
 
   marked_moved : (change : Change) (clock : ℕ) (x : Transaction) →
       marked (moved_change move change) clock (moved_transaction move x) ≡ moved_transaction move (marked change clock x)
@@ -105,10 +102,7 @@ module _ (move : ℕ → ℕ) (is : IsMove move) where
 
   own_held_moved : (change : TransactionChange) (number : ℕ) (held : Held) → own_held (moved_own move change) number held ≡ own_held change number held
   own_held_moved own.Mark number held = refl
-  own_held_moved (own.Priority to) number held = refl
-  own_held_moved (own.Transfer to) number held = refl
-  own_held_moved (own.Assign key to) number held = refl
-  own_held_moved (own.Loop key left to) number held = refl
+  own_held_moved change number held = refl
 
   held_moved : (change : Change) (number : ℕ) (held : Held) → held_by (moved_change move change) number held ≡ held_by change number held
   held_moved (changes.Generate next) number held = refl
@@ -289,18 +283,11 @@ module _ (move : ℕ → ℕ) (is : IsMove move) where
       ap (λ ws. watched.Entity (kind_of change.1) change.0 ∷ ws)
       (ap (crossings (deed_shares change.1)) (delay_at_moved move s.delays change.0) ∙
       crossings_moved move (deed_shares change.1) (delay_at s.delays change.0))
-  written_by_moved (changes.Unlink key count to) s = refl
-  written_by_moved (changes.Split count to) s = refl
-  written_by_moved (changes.Generate next) s = refl
-  written_by_moved (changes.Transaction change) s = refl
-  written_by_moved changes.Nothing s = refl
+  written_by_moved change s = refl
 
   written_in_moved : (fate : Fate) → written_in fate ≡ map (moved_watched move) (written_in fate)
   written_in_moved fates.Active = refl
-  written_in_moved fates.Current = refl
-  written_in_moved (fates.Delayed until) = refl
-  written_in_moved (fates.Linked key discipline) = refl
-  written_in_moved (fates.Destroyed count) = refl
+  written_in_moved fate = refl
 
   written_where_moved : (o : Option Transaction) (id : ℕ) (change : Change) (fate : Fate) (s : Machine) →
       written_where (option_map (moved_transaction move) o) (move id) (moved_change move change) fate (moved_machine move s) ≡
@@ -313,14 +300,7 @@ module _ (move : ℕ → ℕ) (is : IsMove move) where
 
   written_moved : (s : Machine) (m : Move) → written (moved_machine move s) (moved_move move m) ≡ map (moved_watched move) (written s m)
   written_moved s (moves.Enter id change fate) = written_where_moved s.active id change fate s
-  written_moved s (moves.Start count arrivals) = refl
-  written_moved s moves.Command = refl
-  written_moved s moves.Reset = refl
-  written_moved s moves.Clear = refl
-  written_moved s (moves.Refuse id key units) = refl
-  written_moved s (moves.Watch read) = refl
-  written_moved s moves.Pick = refl
-  written_moved s (moves.Clock time) = refl
+  written_moved s m = refl
 
   pub decided_moved : (s : Machine) (m : Move) (streams : List Stream) →
       decided (moved_machine move s) (moved_move move m) streams ≡ moved_machine move (decided s m streams)

@@ -35,19 +35,12 @@ settled s x id change fate =
 own_same : (change : TransactionChange) (clock : ℕ) (x : Transaction) →
     ((own_marked change clock x).number ≡ x.number) × ((own_marked change clock x).current ≡ x.current)
 own_same own.Mark clock x = (refl, refl)
-own_same (own.Priority to) clock x = (refl, refl)
-own_same (own.Transfer to) clock x = (refl, refl)
-own_same (own.Assign key to) clock x = (refl, refl)
-own_same (own.Loop key left to) clock x = (refl, refl)
+own_same change clock x = (refl, refl)
 
 pub marked_same : (change : Change) (clock : ℕ) (x : Transaction) →
     ((marked change clock x).number ≡ x.number) × ((marked change clock x).current ≡ x.current)
-marked_same (changes.Generate next) clock x = (refl, refl)
 marked_same (changes.Transaction change) clock x = own_same change clock x
-marked_same (changes.Split count to) clock x = (refl, refl)
-marked_same (changes.Unlink key count to) clock x = (refl, refl)
-marked_same (changes.Entity change) clock x = (refl, refl)
-marked_same changes.Nothing clock x = (refl, refl)
+marked_same change clock x = (refl, refl)
 
 -- the current chain behind a fate
 abbrev pub current_behind : Fate → Transaction → List Transaction → List Transaction
@@ -80,37 +73,7 @@ settled_is s x id change fates.Active = record {
   counts = refl;
   entities = refl;
 }
-settled_is s x id change fates.Current = record {
-  clock = refl;
-  next = refl;
-  current = refl;
-  delays = refl;
-  retry = refl;
-  linked = refl;
-  counts = refl;
-  entities = refl;
-}
-settled_is s x id change (fates.Delayed until) = record {
-  clock = refl;
-  next = refl;
-  current = refl;
-  delays = refl;
-  retry = refl;
-  linked = refl;
-  counts = refl;
-  entities = refl;
-}
-settled_is s x id change (fates.Linked key discipline) = record {
-  clock = refl;
-  next = refl;
-  current = refl;
-  delays = refl;
-  retry = refl;
-  linked = refl;
-  counts = refl;
-  entities = refl;
-}
-settled_is s x id change (fates.Destroyed count) = record {
+settled_is s x id change fate = record {
   clock = refl;
   next = refl;
   current = refl;
@@ -125,10 +88,7 @@ settled_is s x id change (fates.Destroyed count) = record {
 pub still_active : (s : Machine) (x : Transaction) (id : ℕ) (change : Change) (fate : Fate) (y : Transaction) →
     (settled s x id change fate).active ≡ Some y → y ≡ marked change s.clock (placed x id)
 still_active s x id change fates.Active y is = let both : Some (marked change s.clock (placed x id)) ≡ Some y = is in cc
-still_active s x id change fates.Current y is = absurd cc
-still_active s x id change (fates.Delayed until) y is = absurd cc
-still_active s x id change (fates.Linked key discipline) y is = absurd cc
-still_active s x id change (fates.Destroyed count) y is = absurd cc
+still_active s x id change fate y is = absurd cc
 
 -- what else stays where one is let in: all but the delay chain that it leaves, the current chain and the counts of blocks
 pub let_in_delays : (x : Transaction) (to : Option ℕ) (s : Machine) → (let_in x to s).delays ≡ s.delays
@@ -235,13 +195,11 @@ unlinked_has P Q t s v key count to named h brings =
 
 changed_has : (P Q : Machine → Type 0) (t : Listing) (s : Machine) (change : Change) (v : Machine) → IsDecidedChange t s change → v.next ≡ s.next →
     P v → Brings P Q t s v → Q (changed change v)
-changed_has P Q t s (changes.Generate None) v coming next h brings = brings.nothing h
 changed_has P Q t s (changes.Generate (Some a)) v coming next h brings = brings.one a coming h
 changed_has P Q t s (changes.Split count to) v coming next h brings = copied_has P Q t s v v.active count to refl next coming h brings
 changed_has P Q t s (changes.Unlink key count to) v coming next h brings = unlinked_has P Q t s v key count to coming.named h brings
 changed_has P Q t s (changes.Entity change) v coming next h brings = admitted_has P Q t s v change.0 change.1 h brings
-changed_has P Q t s (changes.Transaction change) v coming next h brings = brings.nothing h
-changed_has P Q t s changes.Nothing v coming next h brings = brings.nothing h
+changed_has P Q t s change v coming next h brings = brings.nothing h
 
 pub with_active_has : (P : Machine → Type 0) (o : Option Transaction) (f : Transaction → Machine) (s : Machine) → P s →
     ((x : Transaction) → o ≡ Some x → P (f x)) → P (with_active o f s)

@@ -27,7 +27,7 @@ use Rattle.gw_meaning.specs.Numbers.{AreNumbered}
 use Rattle.gw_meaning.specs.Machine.{Machine, UserChain, count_in, with_count, delay_at, user_chain_at}
 use Rattle.gw_meaning.specs.Changes.{lined_up, all_lined_up, left_at, left, crossed, is_due, due, Making, made, all_made, making_of, with_making, started, placed, own_marked, marked, linked_to, fated, let_in, copied, sent, bound, refused, watching, reset, cleared, moved, written, is_woken, woken}
 use Rattle.gw_frame.specs.BlockIds.{IsBlockId, IsIdIfAny, TransactionNames, ActiveNames, EventNames, DelayNames, LinkedNames, WatchedNames, WaiterNames, CountNames, StateNames, ItemNames, StatesNameBlocks, StepsReadBlocks}
-use Rattle.gw_frame.proofs.Keeps.{all_with}
+use Rattle.gw_frame.proofs.Lawful.{all_with}
 use Rattle.gw_frame.proofs.Known.{IsComing, IsDecidedOwn, IsDecidedChange, IsDecided, IsRead}
 use Rattle.gw_frame.proofs.Decided.{step_decides}
 use Rattle.gw_frame.proofs.Moves.{LetsIn, Copies, Unlinks, settled, with_active_has, entered_has, picked_has}
@@ -163,20 +163,14 @@ module _ (t : Listing) where
 
   own_names : (x : Transaction) (id clock : ℕ) (change : TransactionChange) → AreNumbered t.lines → IsDecidedOwn t change → IsBlockId t id →
       TransactionNames t (own_marked change clock (placed x id))
-  own_names x id clock own.Mark numbered coming named = record { current = named; destination = tt }
-  own_names x id clock (own.Priority to) numbered coming named = record { current = named; destination = tt }
   own_names x id clock (own.Transfer to) numbered coming named = record { current = named; destination = coming numbered }
-  own_names x id clock (own.Assign key to) numbered coming named = record { current = named; destination = tt }
   own_names x id clock (own.Loop key left to) numbered coming named = record { current = named; destination = coming numbered }
+  own_names x id clock change numbered coming named = record { current = named; destination = tt }
 
   marked_names : (s : Machine) (x : Transaction) (id : ℕ) (change : Change) → AreNumbered t.lines → IsDecidedChange t s change → IsBlockId t id →
       TransactionNames t (marked change s.clock (placed x id))
-  marked_names s x id (changes.Generate next) numbered coming named = record { current = named; destination = tt }
   marked_names s x id (changes.Transaction change) numbered coming named = own_names x id s.clock change numbered coming named
-  marked_names s x id (changes.Split count to) numbered coming named = record { current = named; destination = tt }
-  marked_names s x id (changes.Unlink key count to) numbered coming named = record { current = named; destination = tt }
-  marked_names s x id (changes.Entity change) numbered coming named = record { current = named; destination = tt }
-  marked_names s x id changes.Nothing numbered coming named = record { current = named; destination = tt }
+  marked_names s x id change numbered coming named = record { current = named; destination = tt }
 
   settled_names : (s : Machine) (x : Transaction) (id : ℕ) (change : Change) (fate : Fate) → StateNames t s → TransactionNames t x → IsBlockId t id →
       TransactionNames t (marked change s.clock (placed x id)) → StateNames t (settled s x id change fate)
@@ -405,6 +399,6 @@ all_read t s (i ∷ is) each h = (each i h.0, all_read t s is each h.1)
 pub reads_names : StepsReadBlocks
 reads_names t seed n s v numbered there goes =
     let named = run_names t seed n s numbered there in
-    let read = all_read t s _ (λ i h. h numbered named.active) ((step_decides t seed s).runs v goes).1 in
+    let read = all_read t s _ (λ i h. h numbered named.active) (step_decides t seed s v goes).1 in
     let F : List Item → Type 0 = λ is. AllByRecursion (ItemNames t) is in
     subst F (sym (reads_there t seed n s there ∙ step_reads t seed s v goes)) read

@@ -5,8 +5,9 @@ use Rattle.gw_meaning.specs.Machine.{Machine}
 use Rattle.gw_meaning.specs.Step.{step, run}
 use Rattle.gw_frame.specs.Moved.{moved_machine, moved_result}
 use Rattle.gw_frame.specs.Renamed.{RenamedStep, RenamedRun}
-use Rattle.gw_frame.proofs.Follows.{result_with}
-use Rattle.gw_frame.proofs.MovedSteps.{step_follows, run_follows}
+use Rattle.gw_frame.proofs.Lawful.{result_with}
+use Rattle.gw_frame.proofs.DecidedValues.{Twins}
+use Rattle.gw_frame.proofs.Decided.{step_lawful, run_lawful}
 use Rattle.gw_frame.proofs.Renaming.{renamed_answers}
 
 -- a result with its state renamed
@@ -16,8 +17,9 @@ renamed_result move (Err end) = refl
 
 pub renamed_step : RenamedStep
 renamed_step move t u seed s r =
-    (step_follows move r.is_move s).runs t seed u seed (renamed_answers move t u seed r) ∙ renamed_result move (step t seed s)
+    let twins : Twins = record { version = t; seed = seed; state = s; move = move; renames = r.is_move } in
+    (step_lawful twins).follows u seed (renamed_answers move t u seed r) ∙ renamed_result move (step t seed s)
 
 pub renamed_run : RenamedRun
 renamed_run move t u seed n r =
-    (run_follows move r.is_move n).runs t seed u seed (renamed_answers move t u seed r) ∙ renamed_result move (run t seed n)
+    (run_lawful t seed move r.is_move n).follows u seed (renamed_answers move t u seed r) ∙ renamed_result move (run t seed n)

@@ -1,5 +1,5 @@
 -- What a RESET and a CLEAR leave: who lives, who is on each user chain, what stands in each block, and what is read of
--- each entity.
+-- each entity. And what moves leave with which nobody comes or goes.
 use Rattle.std.proofs.Common.{◌≡◌, ◌⊎◌, ℕ, ◌+◌, ◌-◌, ◌*◌, nat_eq, Bool, true, false, cond, List, [], ◌∷◌, ◌++◌, append-nil, drop, filter, length, Some, unwrap_or, refl, sym, ap, subst, ◌∙◌, inl, inr, arith}
 use Rattle.std.specs.Prelude.{Contains}
 use Rattle.std.proofs.lemmas.List.Elements.{All-from_recursion}
@@ -16,13 +16,14 @@ use Rattle.gw_meaning.specs.declared.transaction.Transaction.{Transaction}
 use Rattle.gw_meaning.specs.Entities.{facility_at, line_at, store_at, all_anew}
 use Rattle.gw_meaning.specs.Listing.{Listing}
 use Rattle.gw_meaning.specs.Machine.{Machine, UserChain, no_chain, user_chain_at, members_of, waiting, count_in, count_at, or_no_count}
-use Rattle.gw_meaning.specs.Changes.{count_anew, user_chain_anew, reset, decided}
+use Rattle.gw_meaning.specs.Changes.{count_anew, user_chain_anew, reset, bound, refused, watching, moved, decided}
+use Rattle.gw_frame.proofs.Moves.{with_active_has, picked_has}
 use Rattle.gw_frame.proofs.Known.{IsDecided}
 use Rattle.gw_laws.specs.Anew.{Resets, Clears, IsNextCommand, IsNoClear, keys_of}
 use Rattle.gw_meaning.specs.declared.statement.Command.TheVariants as commands
 use Rattle.gw_laws.specs.Chain.{is_in, IsFirstInFirstOut, KeepPlaces}
 use Rattle.gw_laws.specs.Living.{living}
-use Rattle.gw_laws.proofs.Crowd.{many, crowd}
+use Rattle.gw_laws.proofs.Crowd.{many, crowd, refused_crowd, watching_crowd, picked_crowd, advanced_crowd}
 
 -- ---- which move it is
 
@@ -141,3 +142,44 @@ count_reset s id = go s.counts where
         or_no_count (cond b (Some (count_anew c.1)) (count_in (all_anew count_anew cs) id)) ≡ count_anew (or_no_count (cond b (Some c.1) (count_in cs id)))
     each true rest = refl
     each false rest = rest
+
+-- ---- a move with which nobody comes or goes
+
+abbrev pub KeepsAll : Move → Type 0
+KeepsAll (moves.Start count arrivals) = ⊥
+KeepsAll moves.Clear = ⊥
+KeepsAll (moves.Enter id change fate) = ⊥
+KeepsAll m = Unit {0}
+
+-- it gives no number and no parameter, each block has the content that it had, and as many pass a test that does not
+-- tell whether one waits
+pub record AllStay (test : Transaction → Bool) (s v : Machine) : Type 0 where
+  pub next : v.next ≡ s.next
+  pub parameters : v.parameters ≡ s.parameters
+  pub contents : (id : ℕ) → (count_at v.counts id).content ≡ (count_at s.counts id).content
+  pub crowd : crowd test v ≡ crowd test s
+
+itself : (test : Transaction → Bool) (s : Machine) → AllStay test s s
+itself test s = record { next = refl; parameters = refl; contents = λ id. refl; crowd = refl }
+
+pub all_stay : (test : Transaction → Bool) (t : Listing) (s : Machine) (m : Move) → IsDecided t s m → KeepsAll m →
+    ((x : Transaction) (id units : ℕ) → test (bound x id units) ≡ test x) → AllStay test s (moved s m)
+all_stay test t s moves.Command decided keeps waits = record { next = refl; parameters = refl; contents = λ id. refl; crowd = refl }
+all_stay test t s moves.Reset decided keeps waits = record {
+  next = refl;
+  parameters = refl;
+  contents = λ id. ap (λ (c : Count). c.content) (count_reset s id);
+  crowd = crowd_reset test s;
+}
+all_stay test t s (moves.Refuse id key units) decided keeps waits =
+    with_active_has (AllStay test s) s.active (λ x. refused s x id key units) s (itself test s)
+    (λ x is. record { next = refl; parameters = refl; contents = λ id. refl; crowd = refused_crowd test s x id key units is (waits x id units) })
+all_stay test t s (moves.Watch read) decided keeps waits =
+    with_active_has (AllStay test s) s.active (λ x. watching s x read) s (itself test s)
+    (λ x is. record { next = refl; parameters = refl; contents = λ id. refl; crowd = watching_crowd test s x read is })
+all_stay test t s moves.Pick decided keeps waits =
+    picked_has (AllStay test s) s s.current (itself test s)
+    (λ x xs is. record { next = refl; parameters = refl; contents = λ id. refl; crowd = picked_crowd test s x xs decided is })
+all_stay test t s (moves.Clock time) decided keeps waits =
+    record { next = refl; parameters = refl; contents = λ id. refl; crowd = advanced_crowd test s time }
+all_stay test t s m decided keeps waits = absurd keeps

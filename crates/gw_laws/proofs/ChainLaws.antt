@@ -26,7 +26,7 @@ use Rattle.gw_meaning.specs.Watching.{transactions_of}
 use Rattle.gw_laws.specs.Chain.{ChainIsInOrder, ChainIsFirstInFirstOut, IsFirstInFirstOut, numbers_of, is_in}
 use Rattle.gw_frame.proofs.Decided.{step_decides}
 use Rattle.gw_frame.proofs.Known.{IsDecided}
-use Rattle.gw_frame.proofs.Keeps.{all_with}
+use Rattle.gw_frame.proofs.Lawful.{all_with}
 use Rattle.gw_frame.proofs.Moves.{settled, settled_is, current_behind, with_active_has, entered_has, picked_has}
 use Rattle.gw_frame.proofs.Running.{over_run}
 use Rattle.gw_laws.proofs.Entries.{Each, at_has, with_has}
@@ -79,9 +79,6 @@ refused_ordered s x id key units h = record {
 }
 
 pub moved_ordered : (t : Listing) (s : Machine) (m : Move) → IsDecided t s m → AreChained s → AreChained (moved s m)
-moved_ordered t s (moves.Start count arrivals) decided h = record { current = h.current; delays = h.delays }
-moved_ordered t s moves.Command decided h = record { current = h.current; delays = h.delays }
-moved_ordered t s moves.Reset decided h = record { current = h.current; delays = h.delays }
 moved_ordered t s moves.Clear decided h = record { current = tt; delays = tt }
 moved_ordered t s (moves.Enter id change fate) decided h =
     entered_has AreChained AreChained t s id change fate decided.1 h (λ x is. settled_ordered s x id change fate h)
@@ -100,6 +97,7 @@ moved_ordered t s moves.Pick decided h =
     picked_has AreChained s s.current h (λ x xs is. record { current = (subst IsOrdered is h.current).1; delays = h.delays })
 moved_ordered t s (moves.Clock time) decided h =
     record { current = ordered_all_lined (due time s.future) s.current h.current; delays = h.delays }
+moved_ordered t s m decided h = record { current = h.current; delays = h.delays }
 
 pub all_chained : (t : Listing) (seed n : ℕ) (s : Machine) → run t seed n ≡ Ok s → AreChained s
 all_chained t seed = over_run t seed (λ n s. AreChained s) (record { current = tt; delays = tt })
@@ -374,7 +372,7 @@ module _ (priority : ℤ) where
 
 pub chain_is_first_in_first_out : ChainIsFirstInFirstOut
 chain_is_first_in_first_out t seed n s v well within there is priority =
-    let after = ((step_decides t seed s).runs v (sym (run_on t seed n s there) ∙ is)).0 in
+    let after = (step_decides t seed s v (sym (run_on t seed n s there) ∙ is)).0 in
     let P : Machine → Type 0 = λ w. IsFirstInFirstOut (numbers_of priority s.current) (numbers_of priority w.current) in
     let room = all_within t seed n s well within there in
     subst P (sym after.is) (decided_turn priority t s after.move (omega (arith, room.next, within, well.greatest_limit)) after.is_decided

@@ -15,7 +15,7 @@ use Rattle.gw_meaning.specs.Listing.{Listing}
 use Rattle.gw_meaning.specs.Machine.{Machine}
 use Rattle.gw_meaning.specs.Changes.{Making, made, all_made, making_of, fated, refused, is_due, moved, watching}
 use Rattle.gw_meaning.specs.Step.{run, sooner, least_time}
-use Rattle.gw_frame.proofs.Keeps.{all_with}
+use Rattle.gw_frame.proofs.Lawful.{all_with}
 use Rattle.gw_frame.proofs.Known.{IsComing, IsDecidedFate, IsDecided}
 use Rattle.gw_frame.proofs.Moves.{settled_is, with_active_has, entered_has, picked_has}
 use Rattle.gw_frame.proofs.Running.{over_run, over_rest}
@@ -81,11 +81,8 @@ all_made_ahead t s (a ∷ rest) w coming h =
     all_made_ahead t s rest (made a w) coming.1 (all_with (λ (e : Event). s.clock ≤ e.time) w.future _ h (coming.0.ahead, tt))
 
 fated_ahead : (change : Change) (fate : Fate) (x : Transaction) (s : Machine) → IsDecidedFate s change fate → AreAhead s.clock s.future → AreAhead s.clock (fated fate x s).future
-fated_ahead change fates.Active x s decided h = h
-fated_ahead change fates.Current x s decided h = h
 fated_ahead change (fates.Delayed until) x s decided h = all_with (λ (e : Event). s.clock ≤ e.time) s.future _ h (decided.1, tt)
-fated_ahead change (fates.Linked key discipline) x s decided h = h
-fated_ahead change (fates.Destroyed count) x s decided h = h
+fated_ahead change fate x s decided h = h
 
 -- each move
 pub moved_goes_on : (t : Listing) (s : Machine) (m : Move) → IsDecided t s m → (Clears m → ⊥) → IsInTime t s → GoesOn t s.clock (moved s m)

@@ -11,20 +11,19 @@ use Rattle.gw_meaning.specs.declared.moves.Move.{Move}
 use Rattle.gw_meaning.specs.declared.moves.Move.TheVariants as moves
 use Rattle.gw_meaning.specs.Listing.{Listing}
 use Rattle.gw_meaning.specs.Machine.{Machine, delay_at, user_chain_at}
-use Rattle.gw_meaning.specs.Changes.{Making, made, all_made, making_of, with_making, newcomer, placed, started, let_in, one_copied, one_unlinked, refused, moved, watching, written}
+use Rattle.gw_meaning.specs.Changes.{Making, made, all_made, making_of, with_making, newcomer, placed, started, let_in, one_copied, one_unlinked, moved, written}
 use Rattle.gw_meaning.specs.Step.{run}
 use Rattle.gw_model.specs.Well.{Well}
 use Rattle.gw_laws.specs.Living.{living}
 use Rattle.gw_laws.specs.Contents.{ContentsAreCounts}
 use Rattle.gw_frame.proofs.Known.{IsDecided}
-use Rattle.gw_frame.proofs.Moves.{settled, settled_is, marked_same, with_active_has, entered_has, picked_has}
+use Rattle.gw_frame.proofs.Moves.{settled, settled_is, marked_same, entered_has}
 use Rattle.gw_frame.proofs.Running.{over_run}
 use Rattle.gw_laws.proofs.Waiting.{leaving, let_in_is}
 use Rattle.gw_laws.proofs.Counts.{content, content_crossed, content_made, content_stood}
-use Rattle.gw_laws.proofs.Crowd.{one, remains, many, others, crowd, many_living, many_is, active_crowd, future_push, settled_crowd, settled_fewer, refused_crowd, leaving_crowd, let_in_crowd, lets_crowd, copied_crowd, unlinked_crowd, picked_crowd, advanced_crowd, watching_crowd, woken_crowd}
+use Rattle.gw_laws.proofs.Crowd.{one, remains, many, others, crowd, many_living, many_is, active_crowd, future_push, settled_crowd, settled_fewer, leaving_crowd, let_in_crowd, lets_crowd, copied_crowd, unlinked_crowd, woken_crowd}
 use Rattle.gw_laws.proofs.Room.{anyone, all_within}
-use Rattle.gw_laws.proofs.Anew.{count_reset, crowd_reset}
-use Rattle.gw_meaning.specs.declared.transaction.Count.{Count}
+use Rattle.gw_laws.proofs.Anew.{all_stay}
 
 abbrev pub stands_in : ℕ → Transaction → Bool
 stands_in p x = nat_eq x.current p
@@ -107,9 +106,6 @@ unlinked_counted w key to x xs is h p some = h p some ∙ sym (unlinked_crowd (s
 moved_counted : (t : Listing) (s : Machine) (m : Move) → s.next + 100000 < 2 ^ 64 - 1 → crowd anyone s < s.next → IsDecided t s m → IsCounted s →
     IsCounted (moved s m)
 moved_counted t s (moves.Start count arrivals) room few decided h = all_made_counted arrivals (making_of s) (started count s) h
-moved_counted t s moves.Command room few decided h = h
-moved_counted t s moves.Reset room few decided h =
-    λ p some. ap (λ (c : Count). c.content) (count_reset s p) ∙ (h p some ∙ sym (crowd_reset (stands_in p) s))
 moved_counted t s moves.Clear room few decided h = λ p some. refl
 moved_counted t s (moves.Enter id change fate) room few decided h =
     let P : Machine → Type 0 = λ v. (v.next ≡ s.next) × (crowd anyone v < v.next) × IsCounted v in
@@ -146,15 +142,8 @@ moved_counted t s (moves.Enter id change fate) room few decided h =
       );
     }) in
     whole.2
-moved_counted t s (moves.Refuse id key units) room few decided h =
-    with_active_has IsCounted s.active (λ x. refused s x id key units) s h
-    (λ x is p some. h p some ∙ sym (refused_crowd (stands_in p) s x id key units is refl))
-moved_counted t s (moves.Watch read) room few decided h =
-    with_active_has IsCounted s.active (λ x. watching s x read) s h
-    (λ x is p some. h p some ∙ sym (watching_crowd (stands_in p) s x read is))
-moved_counted t s moves.Pick room few decided h =
-    picked_has IsCounted s s.current h (λ x xs is p some. h p some ∙ sym (picked_crowd (stands_in p) s x xs decided is))
-moved_counted t s (moves.Clock time) room few decided h = λ p some. h p some ∙ sym (advanced_crowd (stands_in p) s time)
+moved_counted t s m room few decided h = λ p some.
+    (let stay = all_stay (stands_in p) t s m decided tt (λ x id units. refl) in stay.contents p ∙ (h p some ∙ sym stay.crowd))
 
 -- over a run
 pub all_counted : (t : Listing) (seed : ℕ) → Well t → (n : ℕ) (s : Machine) → run t seed n ≡ Ok s → n ≤ t.limit → IsCounted s

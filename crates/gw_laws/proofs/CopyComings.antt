@@ -59,21 +59,12 @@ ComersAreGiven s = AreBelow s.next s.entities.comings
 done_below : (key : Key) (deed : Deed) (clock number next : ℕ) (e : Entities) → number < next → AreBelow next e.comings →
     AreBelow next (done key deed clock number e).comings
 done_below key (deeds.Queue (of_queue.Queue units)) clock number next e one' all = with_below next e.comings key number one' all
-done_below key (deeds.Queue (of_queue.Depart units at_once)) clock number next e one' all = all
-done_below key (deeds.Facility deed) clock number next e one' all = all
-done_below key (deeds.Storage deed) clock number next e one' all = all
-done_below key (deeds.Savevalue to) clock number next e one' all = all
-done_below key (deeds.Switch set) clock number next e one' all = all
-done_below key (deeds.Table value) clock number next e one' all = all
+done_below key deed clock number next e one' all = all
 
 touched_below : (change : Change) (clock number next : ℕ) (e : Entities) → number < next → AreBelow next e.comings →
     AreBelow next (touched change clock number e).comings
 touched_below (changes.Entity change) clock number next e one' all = done_below change.0 change.1 clock number next e one' all
-touched_below (changes.Generate arrival) clock number next e one' all = all
-touched_below (changes.Transaction change) clock number next e one' all = all
-touched_below (changes.Split count to) clock number next e one' all = all
-touched_below (changes.Unlink key count to) clock number next e one' all = all
-touched_below changes.Nothing clock number next e one' all = all
+touched_below change clock number next e one' all = all
 
 later_below : (before now next : ℕ) (e : Entities) → AreBelow next e.comings → AreBelow next (later before now e).comings
 later_below before now next e all =

@@ -23,7 +23,7 @@ use Rattle.gw_meaning.specs.Changes.{all_lined_up, crossed, placed, copied, one_
 use Rattle.gw_meaning.proofs.Chains.{IsOrdered, ordered_all_lined}
 use Rattle.gw_meaning.proofs.Programs.{run_on}
 use Rattle.gw_frame.proofs.Decided.{is_decided}
-use Rattle.gw_frame.proofs.Keeps.{all_with}
+use Rattle.gw_frame.proofs.Lawful.{all_with}
 use Rattle.gw_frame.proofs.Known.{IsDecidedFate, IsDecided}
 use Rattle.gw_frame.proofs.Moves.{settled, all_copied_keep, AfterCopying, all_copied_is}
 use Rattle.gw_laws.specs.Chain.{numbers_of}
@@ -110,10 +110,8 @@ pub record Splits (s v : Machine) (id count : ℕ) (to : Option ℕ) : Type 0 wh
 
 stays_active : (s : Machine) (count : ℕ) (to : Option ℕ) (fate : Fate) → IsDecidedFate s (changes.Split count to) fate → fate ≡ fates.Active
 stays_active s count to fates.Active h = refl
-stays_active s count to fates.Current h = absurd cc
 stays_active s count to (fates.Delayed until) h = absurd (let no = h.0 in cc)
-stays_active s count to (fates.Linked key discipline) h = absurd cc
-stays_active s count to (fates.Destroyed number) h = absurd cc
+stays_active s count to fate h = absurd cc
 
 pub splits_so : (t : Listing) (seed : ℕ) (s v : Machine) (id count : ℕ) (to : Option ℕ) → IsSplit t seed s v id count to → Splits s v id count to
 splits_so t seed s v id count to h =

@@ -59,10 +59,7 @@ content_left cs q p =
 
 behind_is : (fate : Fate) (n : ℕ) → n < 2 ^ 64 - 1 → content_behind fate n ≡ n + remains fate 1
 behind_is fates.Active n room = omega arith
-behind_is fates.Current n room = omega arith
-behind_is (fates.Delayed until) n room = omega arith
-behind_is (fates.Linked key discipline) n room = omega arith
-behind_is (fates.Destroyed count) n room = omega arith
+behind_is fate n room = omega arith
 
 content_entered : (fate : Fate) (cs : List (ℕ × Count)) (q p : ℕ) → content cs p < 2 ^ 64 - 1 →
     content (entered fate cs q) p ≡ content cs p + remains fate (one (nat_eq q p))

@@ -34,10 +34,7 @@ remains fate n = n
 
 pub remains_less : (fate : Fate) (n : ℕ) → remains fate n ≤ n
 remains_less fates.Active n = omega arith
-remains_less fates.Current n = omega arith
-remains_less (fates.Delayed until) n = omega arith
-remains_less (fates.Linked key discipline) n = omega arith
-remains_less (fates.Destroyed count) n = omega arith
+remains_less fate n = omega arith
 
 module _ (test : Transaction → Bool) where
   -- of a list
@@ -280,15 +277,12 @@ module _ (test : Transaction → Bool) where
   pub settled_linked : (s : Machine) (x : Transaction) (id : ℕ) (change : Change) (fate : Fate) →
       many (waiting (members_of (settled s x id change fate).linked)) ≤
       one (test (marked change s.clock (placed x id))) + many (waiting (members_of s.linked))
-  settled_linked s x id change fates.Active = omega arith
-  settled_linked s x id change fates.Current = omega arith
-  settled_linked s x id change (fates.Delayed until) = omega arith
   settled_linked s x id change (fates.Linked key discipline) =
       let y = marked change s.clock (placed x id) in
       let chains = linked_with s.linked key (linked_to discipline y (user_chain_at s.linked key)) in
       let more = many_joined discipline y (user_chain_at s.linked key).members in
       omega arith
-  settled_linked s x id change (fates.Destroyed count) = omega arith
+  settled_linked s x id change fate = omega arith
 
   pub settled_fewer : (s : Machine) (x : Transaction) (id : ℕ) (change : Change) (fate : Fate) → s.active ≡ Some x →
       test (marked change s.clock (placed x id)) ≡ test x → crowd (settled s x id change fate) ≤ crowd s

@@ -98,7 +98,7 @@ module _ (priority : ℤ) (q : Key) where
 
 pub delays_are_first_in_first_out : DelaysAreFirstInFirstOut
 delays_are_first_in_first_out t seed n s v well within there is key priority facility =
-    let after = ((step_decides t seed s).runs v (sym (run_on t seed n s there) ∙ is)).0 in
+    let after = (step_decides t seed s v (sym (run_on t seed n s there) ∙ is)).0 in
     let chained = all_chained t seed n s there in
     subst (TakesTurns priority key s) (sym after.is)
     (moved_turn priority key t s after.move facility after.is_decided (all_numbered t seed well n s there within) (λ other. delay_ordered s other chained))
@@ -125,9 +125,6 @@ refused_bound s x id key units h =
     with_has AreBound s.delays key _ (lined_all IsBound (bound x id units) (delay_at s.delays key) (id, refl) (delay_bound s key h)) h
 
 moved_bound : (t : Listing) (s : Machine) (m : Move) → IsDecided t s m → AllAreBound s → AllAreBound (moved s m)
-moved_bound t s (moves.Start count arrivals) decided h = h
-moved_bound t s moves.Command decided h = h
-moved_bound t s moves.Reset decided h = h
 moved_bound t s moves.Clear decided h = tt
 moved_bound t s (moves.Enter id change fate) decided h =
     entered_has AllAreBound AllAreBound t s id change fate decided.1 h (λ x is. rw (settled_is s x id change fate).delays h)
@@ -142,7 +139,7 @@ moved_bound t s (moves.Refuse id key units) decided h =
     with_active_has AllAreBound s.active (λ x. refused s x id key units) s h (λ x is. refused_bound s x id key units h)
 moved_bound t s (moves.Watch read) decided h = with_active_has AllAreBound s.active (λ x. watching s x read) s h (λ x is. h)
 moved_bound t s moves.Pick decided h = picked_has AllAreBound s s.current h (λ x xs is. h)
-moved_bound t s (moves.Clock time) decided h = h
+moved_bound t s m decided h = h
 
 pub all_bound : (t : Listing) (seed n : ℕ) (s : Machine) → run t seed n ≡ Ok s → AllAreBound s
 all_bound t seed = over_run t seed (λ n s. AllAreBound s) tt (λ n s m streams there decided h. moved_bound t s m decided h)

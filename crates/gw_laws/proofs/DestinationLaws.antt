@@ -1,29 +1,27 @@
 -- The active transaction enters the block to which it goes, waits to enter it, or waits as it came; those on the current, the
 -- future and the retry chain stay in their blocks.
-use Rattle.std.proofs.Common.{◌≡◌, ℕ, ℤ, zero, suc, ◌-◌, ◌<◌, ◌^◌, nat_eq, Bool, true, false, not, ◌&&◌, ◌||◌, List, [], ◌∷◌, ◌++◌, map, Option, Some, None, refl, ap, sym, subst, ◌∙◌, arith, inl, inr, ◌⊎◌}
+use Rattle.std.proofs.Common.{◌≡◌, ℕ, ℤ, suc, ◌-◌, ◌≤◌, ◌<◌, ◌^◌, nat_eq, Bool, true, false, not, ◌&&◌, ◌||◌, List, [], ◌∷◌, ◌++◌, map, Option, Some, None, refl, ap, sym, subst, ◌∙◌, arith, inl, inr, ◌⊎◌}
 use Rattle.std.specs.Prelude.{Contains, option_to_list}
 use Rattle.std.proofs.lemmas.Bool.{cases_Bool, cases_lt, false≢true, eq-eqb, eqb-true, ne_eqb, and_parts, and_from, and_left, or_left, or_right}
 use Rattle.gw_names.specs.declared.key.Key.{Key}
 use Rattle.gw_entities.specs.Tables.{with_value}
 use Rattle.gw_meaning.specs.declared.transaction.Transaction.{Transaction}
 use Rattle.gw_meaning.specs.declared.transaction.Event.{Event}
-use Rattle.gw_meaning.specs.declared.statement.Command.{Command}
-use Rattle.gw_meaning.specs.declared.statement.Command.TheVariants as commands
 use Rattle.gw_meaning.specs.declared.moves.Arrival.{Arrival}
 use Rattle.gw_meaning.specs.declared.moves.Change.{Change}
 use Rattle.gw_meaning.specs.declared.moves.Fate.{Fate}
 use Rattle.gw_meaning.specs.declared.moves.Fate.TheVariants as fates
 use Rattle.gw_meaning.specs.declared.moves.Move.{Move}
 use Rattle.gw_meaning.specs.declared.moves.Move.TheVariants as moves
-use Rattle.gw_meaning.specs.Listing.{Listing, command_at}
-use Rattle.gw_meaning.specs.Machine.{Machine, raised, delay_at, waiting, members_of, user_chain_at}
+use Rattle.gw_meaning.specs.Listing.{Listing}
+use Rattle.gw_meaning.specs.Machine.{Machine, delay_at, waiting, members_of, user_chain_at}
 use Rattle.gw_meaning.specs.Changes.{Making, lined_up, made, all_made, started, making_of, with_making, newcomer, placed, marked, fated, let_in, one_let_in, copied, one_copied, sent, one_unlinked, entering, bound, refused, with_active, moved, watching, written, woken, decided}
 use Rattle.gw_meaning.proofs.Programs.{run_on}
 use Rattle.gw_meaning.specs.declared.watched.Watched.{Watched}
 use Rattle.gw_meaning.specs.Watching.{Waiter, transactions_of}
 use Rattle.gw_frame.proofs.Moves.{LetsIn, settled, settled_is, marked_same, with_active_has, entered_has, picked_has}
 use Rattle.gw_frame.proofs.Decided.{step_decides}
-use Rattle.gw_frame.proofs.Known.{IsDecided}
+use Rattle.gw_frame.proofs.Known.{IsDecided, IsAttempt, IsStep}
 use Rattle.gw_laws.specs.Living.{living}
 use Rattle.gw_laws.specs.Destinations.{goes_to, WentWhereItGoes, GoesToItsDestination, on_chains, OthersStayInTheirBlocks, WaitsAsItCame}
 use Rattle.gw_laws.proofs.Waiting.{leaving, let_in_as, let_in_number, let_in_is}
@@ -31,8 +29,7 @@ use Rattle.gw_laws.proofs.Crowd.{one, many, others, crowd, active_many, active_c
 use Rattle.gw_laws.proofs.NumberLaws.{has_number, IsNumbered, all_numbered}
 use Rattle.gw_laws.proofs.Room.{all_within}
 use Rattle.gw_laws.proofs.OwnValueLaws.{many_parts}
-use Rattle.gw_laws.proofs.Tried.{IsScan, IsCommand, IsNext, no_start, no_command, no_reset, no_clear_scanned, Makes, AllKeep, changed_keeps, over_moves, IsBehind, step_is_next}
-use Rattle.gw_laws.proofs.Attempts.{IsAt}
+use Rattle.gw_laws.proofs.Tried.{Makes, AllKeep, changed_keeps, over_moves}
 use Rattle.gw_laws.proofs.Waking.{nobody_wakes}
 use Rattle.gw_laws.proofs.GateLaws.{transaction_there}
 use Rattle.gw_streams.specs.declared.stream.Stream.{Stream}
@@ -44,12 +41,9 @@ use Rattle.gw_laws.specs.Anew.{Clears}
 abbrev Idle : Machine → Type 0
 Idle s = s.remaining ≡ 0 → s.active ≡ None
 
-fated_idle : (fate : Fate) (x : Transaction) (v : Machine) (n : ℕ) → v.remaining ≡ suc n → Idle (fated fate x v)
-fated_idle fates.Active x v n busy = λ none. absurd (omega (arith, busy, none))
-fated_idle fates.Current x v n busy = λ none. refl
-fated_idle (fates.Delayed until) x v n busy = λ none. refl
-fated_idle (fates.Linked key discipline) x v n busy = λ none. refl
-fated_idle (fates.Destroyed count) x v n busy = λ none. refl
+fated_idle : (fate : Fate) (x : Transaction) (v : Machine) → 1 ≤ v.remaining → Idle (fated fate x v)
+fated_idle fates.Active x v busy = λ none. absurd (omega (arith, busy, none))
+fated_idle fate x v busy = λ none. refl
 
 lets_idle : LetsIn Idle
 lets_idle w key x passed xs is h = go x.destination where
@@ -57,38 +51,21 @@ lets_idle w key x passed xs is h = go x.destination where
   go None = h
   go (Some id) = h
 
-module _ (t : Listing) where
-  command_idle : (s : Machine) (m : Move) (c : Option Command) → s.remaining ≡ 0 → IsCommand c m → Idle s → Idle (moved s m)
-  command_idle s (moves.Start n arrivals) c idle next h = λ none. h idle
-  command_idle s moves.Command c idle next h = λ none. h idle
-  command_idle s moves.Reset c idle next h = λ none. h idle
-  command_idle s moves.Clear c idle next h = λ none. refl
-  command_idle s m None idle next h = absurd next
-  command_idle s m (Some (commands.Start count)) idle next h = absurd next
-  command_idle s m (Some (commands.Rmult values)) idle next h = absurd next
-  command_idle s m (Some commands.Reset) idle next h = absurd next
-  command_idle s m (Some commands.Clear) idle next h = absurd next
-
-  scan_idle : (s : Machine) (m : Move) (n : ℕ) → s.remaining ≡ suc n → IsScan t s.active m → Idle s → Idle (moved s m)
-  scan_idle s (moves.Start count arrivals) n busy next h = absurd (no_start t s.active count arrivals next)
-  scan_idle s moves.Command n busy next h = absurd (no_command t s.active next)
-  scan_idle s moves.Reset n busy next h = absurd (no_reset t s.active next)
-  scan_idle s moves.Clear n busy next h = absurd (no_clear_scanned t s.active next)
-  scan_idle s (moves.Enter id change fate) n busy next h =
-      with_active_has Idle s.active (λ x. entering s x id change fate) s h
-      (λ x is. changed_keeps Idle change (settled s x id change fate)
-      (record { makes = λ a w k. k; lets = lets_idle; copies = λ w to y values k. k; unlinks = λ w key to y ys there k. k })
-      (fated_idle fate (marked change s.clock (placed x id)) _ n busy))
-  scan_idle s (moves.Refuse id key units) n busy next h = with_active_has Idle s.active (λ x. refused s x id key units) s h (λ x is none. refl)
-  scan_idle s (moves.Watch read) n busy next h = with_active_has Idle s.active (λ x. watching s x read) s h (λ x is none. refl)
-  scan_idle s moves.Pick n busy next h = picked_has Idle s s.current h (λ x xs is none. absurd (omega (arith, busy, none)))
-  scan_idle s (moves.Clock time) n busy next h = λ none. absurd (omega (arith, busy, none))
-
-  moved_idle : (s : Machine) (m : Move) → IsNext t s s.remaining m → Idle s → Idle (moved s m)
-  moved_idle s m next h = go s.remaining refl next where
-    go : (n : ℕ) → s.remaining ≡ n → IsNext t s n m → Idle (moved s m)
-    go zero idle is = command_idle s m (command_at t (raised s.commands)) idle is h
-    go (suc n) busy is = scan_idle s m n busy is h
+moved_idle : (t : Listing) (seed : ℕ) (s : Machine) (m : Move) → IsStep t seed s m → Idle s → Idle (moved s m)
+moved_idle t seed s (moves.Start count arrivals) step h = λ none. h step.0.idle
+moved_idle t seed s moves.Command step h = λ none. h step.1.idle
+moved_idle t seed s moves.Reset step h = λ none. h step.idle
+moved_idle t seed s moves.Clear step h = λ none. refl
+moved_idle t seed s (moves.Enter id change fate) step h =
+    with_active_has Idle s.active (λ x. entering s x id change fate) s h
+    (λ x is. changed_keeps Idle change (settled s x id change fate)
+    (record { makes = λ a w k. k; lets = lets_idle; copies = λ w to y values k. k; unlinks = λ w key to y ys there k. k })
+    (fated_idle fate (marked change s.clock (placed x id)) _ step.0))
+moved_idle t seed s (moves.Refuse id key units) step h = with_active_has Idle s.active (λ x. refused s x id key units) s h (λ x is none. refl)
+moved_idle t seed s (moves.Watch read) step h = with_active_has Idle s.active (λ x. watching s x read) s h (λ x is none. refl)
+moved_idle t seed s moves.Pick step h =
+    picked_has Idle s s.current h (λ x xs is none. absurd (let started = step.0 in omega (arith, started, none)))
+moved_idle t seed s (moves.Clock time) step h = λ none. absurd (let started = step.0.started in omega (arith, started, none))
 
 -- ---- nobody with a number passes a test
 
@@ -112,6 +89,19 @@ module _ (k : ℕ) (low : k < 2 ^ 64 - 1) (test : Transaction → Bool) (none_ot
         | inl is ↦ absurd (let here : one (has_number k y) ≡ 1 = ap one is in omega (arith, none, here))
         | inr other ↦ let no_more : one (test y) ≡ 0 = ap one (none_other y other) in omega (arith, no_more, rest)
       ]
+
+  -- where nobody beside the active one has the number, nobody beside it passes
+  none_beside : (s : Machine) → others (has_number k) s ≡ 0 → others test s ≡ 0
+  none_beside s none =
+      let events = map (λ (e : Event). e.transaction) s.future in
+      let whole = many_future (has_number k) s.future in
+      let part = many_future test s.future in
+      let current = none_in s.current (omega arith) in
+      let future = none_in events (omega arith) in
+      let wait = none_in (waiting s.delays) (omega arith) in
+      let retry = none_in (transactions_of s.retry) (omega arith) in
+      let linked = none_in (waiting (members_of s.linked)) (omega arith) in
+      omega arith
 
 -- whoever does not pass the last test does not pass the other one, wherever it is sent
 module _ (k : ℕ) (low : k < 2 ^ 64 - 1) (test : Transaction → Bool) (none_other : (y : Transaction) → has_number k y ≡ false → test y ≡ false)
@@ -251,17 +241,7 @@ module _ (s : Machine) (x : Transaction) (id : ℕ) (active : s.active ≡ Some 
       omega arith
 
   none_stray : others stray s ≡ 0
-  none_stray =
-      let none = no_other in
-      let events = map (λ (e : Event). e.transaction) s.future in
-      let whole = many_future has s.future in
-      let part = many_future stray s.future in
-      let current = none_in x.number low stray stray_other s.current (omega arith) in
-      let future = none_in x.number low stray stray_other events (omega arith) in
-      let wait = none_in x.number low stray stray_other (waiting s.delays) (omega arith) in
-      let retry = none_in x.number low stray stray_other (transactions_of s.retry) (omega arith) in
-      let linked = none_in x.number low stray stray_other (waiting (members_of s.linked)) (omega arith) in
-      omega arith
+  none_stray = none_beside x.number low stray stray_other s no_other
 
   -- one with its number that is in another block: wherever it is sent, it is right where it is in this one
   abbrev elsewhere : Transaction → Bool
@@ -560,24 +540,11 @@ module _ (x : Transaction) (low : x.number < 2 ^ 64 - 1) where
 
 -- where the one that is active has a number, nobody else has it
 none_changed : (s : Machine) (x : Transaction) → s.active ≡ Some x → IsNumbered s → (low : x.number < 2 ^ 64 - 1) → others (changed_one x low) s ≡ 0
-none_changed s x active h low =
-    let has : Transaction → Bool = has_number x.number in
-    let test = changed_one x low in
-    let other = changed_other x low in
-    let nobody = no_other s x 0 active h low in
-    let events = map (λ (e : Event). e.transaction) s.future in
-    let whole = many_future has s.future in
-    let part = many_future test s.future in
-    let current = none_in x.number low test other s.current (omega arith) in
-    let future = none_in x.number low test other events (omega arith) in
-    let wait = none_in x.number low test other (waiting s.delays) (omega arith) in
-    let retry = none_in x.number low test other (transactions_of s.retry) (omega arith) in
-    let linked = none_in x.number low test other (waiting (members_of s.linked)) (omega arith) in
-    omega arith
+none_changed s x active h low = none_beside x.number low (changed_one x low) (changed_other x low) s (no_other s x 0 active h low)
 
 pub others_stay_in_their_blocks : OthersStayInTheirBlocks
 others_stay_in_their_blocks t seed n s v well within there is x y stands lives' same =
-    let after = ((step_decides t seed s).runs v (sym (run_on t seed n s there) ∙ is)).0 in
+    let after = (step_decides t seed s v (sym (run_on t seed n s there) ∙ is)).0 in
     let h = all_numbered t seed well n s there within in
     let room = all_within t seed n s well within there in
     let given = on_chains_low s x h stands in
@@ -617,26 +584,35 @@ stands_on_retry s x read active =
 
 pub goes_to_its_destination : GoesToItsDestination
 goes_to_its_destination t seed n s v well within there is_run x y active lives' same =
-    let behind = step_is_next t seed s v (sym (run_on t seed n s there) ∙ is_run) in
-    let idle : Idle s = over_moves t seed Idle (λ none. refl) (λ u m streams next h. moved_idle t u m next h) n s there in
+    let after = (step_decides t seed s v (sym (run_on t seed n s there) ∙ is_run)).0 in
+    let idle : Idle s = over_moves t seed Idle (λ none. refl) (λ u m streams step h. moved_idle t seed u m step h) n s there in
     let h = all_numbered t seed well n s there within in
     let room = all_within t seed n s well within there in
-    go behind idle h (omega (arith, room.next, well.greatest_limit, within)) s.remaining refl behind.is_next
+    let given = is_given s x active h in
+    by_move after.move after.streams after.is_step after.is idle h (omega (arith, given, room.next, well.greatest_limit, within))
   where
     -- where it enters its block, or is bound for it
-    toward : (id : ℕ) (m : Move) (streams : List Stream) → v ≡ decided s m streams → IsNumbered s → x.number < 2 ^ 64 - 1 → goes_to t x ≡ Some id →
-        IsToward id m → WentWhereItGoes t x y
-    toward id m streams is h below goes at' =
-        let test = stray s x id active h below in
-        let none : crowd test (moved s m) ≡ 0 = moved_right s x id active h below m at' in
+    toward : (m : Move) (streams : List Stream) → v ≡ decided s m streams → IsNumbered s → x.number < 2 ^ 64 - 1 → (a : IsAttempt t seed s m) →
+        IsToward a.id m → WentWhereItGoes t x y ⊎ WaitsAsItCame t v x y
+    toward m streams is h below a at' =
+        let both : Some a.who ≡ Some x = sym a.active ∙ active in
+        let who : a.who ≡ x = cc in
+        let goes : goes_to t x ≡ Some a.id = subst (λ z. goes_to t z ≡ Some a.id) who a.goes in
+        let test = stray s x a.id active h below in
+        let none : crowd test (moved s m) ≡ 0 = moved_right s x a.id active h below m at' in
         let now : crowd test v ≡ 0 = ap (crowd test) is ∙ (woken_crowd test (written s m) (moved s m) ∙ none) in
-        went s x id active h below t v y goes now lives' same
+        inl (went s x a.id active h below t v y goes now lives' same)
 
-    by_move : (id : ℕ) (m : Move) (streams : List Stream) → v ≡ decided s m streams → IsNumbered s → x.number < 2 ^ 64 - 1 → goes_to t x ≡ Some id →
-        IsAt id m → WentWhereItGoes t x y ⊎ WaitsAsItCame t v x y
-    by_move id (moves.Enter to change fate) streams is h below goes at' = inl (toward id (moves.Enter to change fate) streams is h below goes at')
-    by_move id (moves.Refuse to key units) streams is h below goes at' = inl (toward id (moves.Refuse to key units) streams is h below goes at')
-    by_move id (moves.Watch read) streams is h below goes at' =
+    other : s.active ≡ None → WentWhereItGoes t x y ⊎ WaitsAsItCame t v x y
+    other none = absurd (let no : None ≡ Some x = sym none ∙ active in cc)
+
+    by_move : (m : Move) (streams : List Stream) → IsStep t seed s m → v ≡ decided s m streams → Idle s → IsNumbered s → x.number < 2 ^ 64 - 1 →
+        WentWhereItGoes t x y ⊎ WaitsAsItCame t v x y
+    by_move (moves.Enter to change fate) streams step is idle h below =
+        toward (moves.Enter to change fate) streams is h below step.1 step.1.tried.0
+    by_move (moves.Refuse to key units) streams step is idle h below =
+        toward (moves.Refuse to key units) streams is h below step.1 step.1.tried.0
+    by_move (moves.Watch read) streams step is idle h below =
         let test = changed_one x below in
         let u : Machine = moved s (moves.Watch read) in
         let none : crowd test u ≡ 0 =
@@ -648,12 +624,9 @@ goes_to_its_destination t seed n s v well within there is_run x y active lives' 
         let waits : Contains (transactions_of v.retry) x =
         subst (λ (w : Machine). Contains (transactions_of w.retry) x) (sym here) (stands_on_retry s x read active) in
         inr (waits, still.0, still.1, transaction_there t seed (suc n) v x is_run waits)
-    by_move id m streams is h below goes at' = absurd at'
-
-    go : (behind : IsBehind t seed s v) → Idle s → IsNumbered s → s.next < 2 ^ 64 - 1 → (k : ℕ) → s.remaining ≡ k → IsNext t s k behind.move →
-        WentWhereItGoes t x y ⊎ WaitsAsItCame t v x y
-    go behind idle h low zero none next = absurd (let no : None ≡ Some x = sym (idle none) ∙ active in cc)
-    go behind idle h low (suc k) busy next =
-        let scan : IsScan t (Some x) behind.move = subst (λ o. IsScan t o behind.move) active next in
-        let given = is_given s x active h in
-        by_move scan.0 behind.move behind.streams behind.is h (omega (arith, given, low)) scan.1 scan.2
+    by_move (moves.Start count arrivals) streams step is idle h below = other (idle step.0.idle)
+    by_move moves.Command streams step is idle h below = other (idle step.1.idle)
+    by_move moves.Reset streams step is idle h below = other (idle step.idle)
+    by_move moves.Clear streams step is idle h below = other (idle step.idle)
+    by_move moves.Pick streams step is idle h below = other step.1
+    by_move (moves.Clock time) streams step is idle h below = other step.0.active

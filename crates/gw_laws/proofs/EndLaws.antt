@@ -1,5 +1,5 @@
 -- A step by what there is to do; and so when a run ends.
-use Rattle.std.proofs.Common.{◌≡◌, ℕ, zero, suc, ◌≤◌, ◌<◌, min, ◌⊎◌, nat_le, Bool, true, false, List, [], ◌∷◌, Option, Some, None, Result, Ok, Err, refl, ap, sym, subst, ◌∙◌, arith, inl, inr}
+use Rattle.std.proofs.Common.{◌≡◌, ℕ, zero, suc, ◌≤◌, ◌<◌, min, ◌⊎◌, nat_le, false, List, [], ◌∷◌, Option, Some, None, Result, Ok, Err, refl, ap, sym, subst, ◌∙◌, arith, inl, inr}
 use Rattle.std.specs.Prelude.{All, Any}
 use Rattle.std.specs.List.{AllByRecursion}
 use Rattle.std.proofs.lemmas.Bool.{cases_lt}
@@ -9,20 +9,17 @@ use Rattle.gw_streams.specs.declared.stream.Stream.{Stream}
 use Rattle.gw_expr.specs.declared.halt.End.{End}
 use Rattle.gw_expr.specs.declared.halt.End.TheVariants as ends
 use Rattle.gw_meaning.specs.declared.moves.Move.{Move}
-use Rattle.gw_meaning.specs.declared.statement.Command.{Command}
-use Rattle.gw_meaning.specs.declared.statement.Command.TheVariants as commands
-use Rattle.gw_meaning.specs.declared.transaction.Transaction.{Transaction}
 use Rattle.gw_meaning.specs.declared.transaction.Event.{Event}
-use Rattle.gw_meaning.specs.Listing.{Listing, command_at}
-use Rattle.gw_meaning.specs.Machine.{Machine, raised}
+use Rattle.gw_meaning.specs.Listing.{Listing}
+use Rattle.gw_meaning.specs.Machine.{Machine}
 use Rattle.gw_meaning.specs.Changes.{decided}
 use Rattle.gw_meaning.specs.Questions.{Prog, Gives, result_of}
-use Rattle.gw_meaning.specs.Step.{start_prog, command_prog, sooner, least_time, within_prog, clock_prog, pick_prog, scan_prog, move_prog, decide, step, step_prog, run, run_prog}
+use Rattle.gw_meaning.specs.Step.{command_prog, sooner, least_time, within_prog, clock_prog, pick_prog, scan_prog, move_prog, decide, step, step_prog, run, run_prog}
 use Rattle.gw_meaning.proofs.Programs.{bind_gives, bind_ends, run_on}
 use Rattle.gw_laws.specs.Ends.{IsDone, IsDry, IsBeyond, EndsDone, EndsDry, EndsAtHorizon, IsMoving, IsPriming, ErrorsAreOfAttempts, EndsBehindALastState, EndsForGood}
 use Rattle.gw_laws.proofs.ClockLaws.{AreAhead, never_none, least_is_least}
-use Rattle.gw_laws.proofs.Trying.{IsError, ends_so}
-use Rattle.gw_laws.proofs.Attempts.{start_tries, attempt_tries}
+use Rattle.gw_frame.proofs.Known.{IsEnd}
+use Rattle.gw_frame.proofs.Decided.{step_decides, step_ends}
 
 -- ---- least times
 
@@ -78,20 +75,7 @@ module _ (t : Listing) (seed : ℕ) (s : Machine) where
   comes_to_end end is = (bind_ends t seed (decide s) made end is).0
 
   pub went_on : (v : Machine) → step t seed s ≡ Ok v → (d : Move × List Stream) × (result_of t seed (decide s) ≡ Ok d) × (v ≡ decided s d.0 d.1)
-  went_on v is = go (result_of t seed (decide s)) refl where
-    go : (r : Result (Move × List Stream) End) → result_of t seed (decide s) ≡ r →
-        (d : Move × List Stream) × (result_of t seed (decide s) ≡ Ok d) × (v ≡ decided s d.0 d.1)
-    go (Ok d) there = let both : Ok v ≡ Ok (decided s d.0 d.1) = sym is ∙ goes_on d there in (d, there, cc)
-    go (Err end) there = absurd (let no : Ok v ≡ Err end = sym is ∙ comes_to_end end there in cc)
-
-  came_to_end : (end : End) → step t seed s ≡ Err end → result_of t seed (decide s) ≡ Err end
-  came_to_end end is = go (result_of t seed (decide s)) refl where
-    go : (r : Result (Move × List Stream) End) → result_of t seed (decide s) ≡ r → result_of t seed (decide s) ≡ Err end
-    go (Ok d) there = absurd (let no : Ok (decided s d.0 d.1) ≡ Err end = sym (goes_on d there) ∙ is in cc)
-    go (Err e) there =
-        let both : Err e ≡ Err end = sym (comes_to_end e there) ∙ is in
-        let same : e ≡ end = cc in
-        there ∙ ap (λ x. Err x) same
+  went_on v is = let after = (step_decides t seed s v is).0 in ((after.move, after.streams), after.goes, after.is)
 
   -- where no START is under way, it is a command; else the scan, which picks where none is active
   at_command : s.remaining ≡ 0 → decide s ≡ move_prog s 0 s.streams
@@ -117,62 +101,23 @@ module _ (t : Listing) (seed : ℕ) (s : Machine) where
   Why ends.Horizon = IsBeyond t s
   Why (ends.Error stop) = IsMoving s ⊎ IsPriming t s
 
-  by_error : (end : End) → IsError end → IsMoving s ⊎ IsPriming t s → Why end
-  by_error (ends.Error stop) error h = h
-  by_error other error h = absurd error
-
-  start_why : (primed : Bool) (count : ℕ) (end : End) → s.primed ≡ primed → s.remaining ≡ 0 →
-      command_at t (raised s.commands) ≡ Some (commands.Start count) → result_of t seed (start_prog s primed count s.streams) ≡ Err end → Why end
-  start_why true count end first idle next is = absurd cc
-  start_why false count end first idle next is =
-      let error = ends_so t seed _ (start_prog s false count s.streams) end ((start_tries s false count).from s.streams) is in
-      by_error end error (inr (record { idle = idle; unprimed = first; count = count; next = next }))
-
-  command_why : (command : Option Command) (end : End) → command_at t (raised s.commands) ≡ command → s.remaining ≡ 0 →
-      result_of t seed (command_prog s command s.streams) ≡ Err end → Why end
-  command_why None end next idle is = let same : ends.CommandsDone ≡ end = cc in subst Why same (record { idle = idle; last = next })
-  command_why (Some (commands.Start count)) end next idle is = start_why s.primed count end refl idle next is
-  command_why (Some (commands.Rmult values)) end next idle is = absurd cc
-  command_why (Some commands.Reset) end next idle is = absurd cc
-  command_why (Some commands.Clear) end next idle is = absurd cc
-
-  clock_why : (time : Option ℕ) (end : End) → least_time s.future ≡ time → 1 ≤ s.remaining → s.active ≡ None → s.current ≡ [] →
-      result_of t seed (clock_prog time s.streams) ≡ Err end → Why end
-  clock_why None end least started none empty is =
-      let same : ends.Dry ≡ end = cc in
-      subst Why same (record { started = started; active = none; current = empty; future = none_there s.future least })
-  clock_why (Some time) end least started none empty is = go (nat_le time t.horizon) refl is where
-    go : (within : Bool) → nat_le time t.horizon ≡ within → result_of t seed (within_prog time within s.streams) ≡ Err end → Why end
-    go true test there = absurd cc
-    go false test there =
-        let same : ends.Horizon ≡ end = cc in
-        subst Why same (record {
-          started = started;
-          active = none;
-          current = empty;
-          some = λ no. (let gone : Some time ≡ None = sym least ∙ ap least_time no in absurd cc);
-          above = All-from_recursion (λ (e : Event). t.horizon < e.time) s.future
-              (all_above t.horizon time s.future (beyond time t.horizon test) (least_is_least s.future time least));
-        })
-
-  pick_why : (chain : List Transaction) (end : End) → s.current ≡ chain → 1 ≤ s.remaining → s.active ≡ None →
-      result_of t seed (pick_prog s chain s.streams) ≡ Err end → Why end
-  pick_why [] end empty started none is = clock_why (least_time s.future) end refl started none empty is
-  pick_why (x ∷ xs) end chain started none is = absurd cc
-
-  scan_why : (active : Option Transaction) (end : End) → s.active ≡ active → 1 ≤ s.remaining →
-      result_of t seed (scan_prog s active s.streams) ≡ Err end → Why end
-  scan_why None end none started is = pick_why s.current end refl started none is
-  scan_why (Some x) end active started is =
-      let error = ends_so t seed _ (scan_prog s (Some x) s.streams) end ((attempt_tries s x x.destination).from s.streams) is in
-      by_error end error (inl (record { started = started; who = x; active = active }))
-
-  move_why : (n : ℕ) (end : End) → s.remaining ≡ n → result_of t seed (move_prog s n s.streams) ≡ Err end → Why end
-  move_why zero end idle is = command_why (command_at t (raised s.commands)) end refl idle is
-  move_why (suc n) end some is = scan_why s.active end refl (omega (arith, some)) is
+  by_end : (end : End) → IsEnd t s end → Why end
+  by_end ends.CommandsDone h = record { idle = h.0; last = h.1 }
+  by_end ends.Dry h =
+      record { started = h.0.started; active = h.0.active; current = h.0.current; future = none_there s.future h.1 }
+  by_end ends.Horizon h = record {
+    started = h.0.started;
+    active = h.0.active;
+    current = h.0.current;
+    some = λ no. (let gone : Some h.1 ≡ None = sym h.2 ∙ ap least_time no in absurd cc);
+    above = All-from_recursion (λ (e : Event). t.horizon < e.time) s.future
+        (all_above t.horizon h.1 s.future (beyond h.1 t.horizon h.3) (least_is_least s.future h.1 h.2));
+  }
+  by_end (ends.Error stop) (inl h) = inl (record { started = h.0; who = h.1; active = h.2 })
+  by_end (ends.Error stop) (inr h) = inr (record { idle = h.2.idle; unprimed = h.1; count = h.0; next = h.2.next })
 
   why : (end : End) → step t seed s ≡ Err end → Why end
-  why end is = move_why s.remaining end refl (came_to_end end is)
+  why end is = by_end end (step_ends t seed s end is)
 
   -- ---- and that it does
 

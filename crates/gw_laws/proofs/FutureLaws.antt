@@ -19,7 +19,7 @@ use Rattle.gw_meaning.specs.Machine.{Machine}
 use Rattle.gw_meaning.specs.Changes.{Making, made, all_made, making_of, newcomer, placed, marked, is_due, refused, moved, watching}
 use Rattle.gw_meaning.proofs.Programs.{run_on}
 use Rattle.gw_frame.proofs.Decided.{step_decides}
-use Rattle.gw_frame.proofs.Keeps.{all_with}
+use Rattle.gw_frame.proofs.Lawful.{all_with}
 use Rattle.gw_frame.proofs.Known.{IsDecided}
 use Rattle.gw_frame.proofs.Moves.{settled, settled_is, marked_same, with_active_has, entered_has, picked_has}
 use Rattle.gw_laws.specs.Chain.{is_in, KeepPlaces, numbers_coming, FutureKeepsItsOrder, NobodyLeavesBeforeHisTime}
@@ -126,15 +126,12 @@ module _ (s : Machine) (h : IsNumbered s) where
       all_made_came rest (made a w) (omega (arith, above, room)) (omega (arith, room)) (one_came w.future (newcomer w.next a) (number_new w.next above) k)
 
   settled_came : (x : Transaction) (id : ℕ) (change : Change) (fate : Fate) → s.active ≡ Some x → Came s (settled s x id change fate).future
-  settled_came x id change fates.Active is = none_came
-  settled_came x id change fates.Current is = none_came
   settled_came x id change (fates.Delayed until) is =
       let y = marked change s.clock (placed x id) in
       let same : y.number ≡ x.number = (marked_same change s.clock (placed x id)).0 in
       one_came s.future (record { time = until; transaction = y })
       (ap (is_in (numbers_coming s.future)) same ∙ number_active x is) none_came
-  settled_came x id change (fates.Linked key discipline) is = none_came
-  settled_came x id change (fates.Destroyed count) is = none_came
+  settled_came x id change fate is = none_came
 
   moved_came : (t : Listing) (m : Move) → s.next + length t.lines < 2 ^ 64 - 1 → IsDecided t s m → Keeps (moved s m).future
   moved_came t (moves.Start count arrivals) room decided =
@@ -168,7 +165,7 @@ module _ (s : Machine) (h : IsNumbered s) where
 
 pub future_keeps_its_order : FutureKeepsItsOrder
 future_keeps_its_order t seed n s v well within there is =
-    let after = ((step_decides t seed s).runs v (sym (run_on t seed n s there) ∙ is)).0 in
+    let after = (step_decides t seed s v (sym (run_on t seed n s there) ∙ is)).0 in
     let h = all_numbered t seed well n s there within in
     let room = all_within t seed n s well within there in
     subst (λ (w : Machine). Keeps s h w.future) (sym after.is)
@@ -201,11 +198,8 @@ module _ (e : Event) where
   all_made_there (a ∷ rest) w h = all_made_there rest (made a w) (Contains-append_left w.future (newcomer w.next a ∷ []) e h)
 
   settled_there : (s : Machine) (x : Transaction) (id : ℕ) (change : Change) (fate : Fate) → IsThere s → IsThere (settled s x id change fate)
-  settled_there s x id change fates.Active h = h
-  settled_there s x id change fates.Current h = h
   settled_there s x id change (fates.Delayed until) h = Contains-append_left s.future _ e h
-  settled_there s x id change (fates.Linked key discipline) h = h
-  settled_there s x id change (fates.Destroyed count) h = h
+  settled_there s x id change fate h = h
 
   moved_there : (t : Listing) (s : Machine) (m : Move) → IsDecided t s m → (Clears m → ⊥) → IsThere s → StaysOrIsDue (moved s m)
   moved_there t s (moves.Start count arrivals) decided apart h = inl (all_made_there arrivals (making_of s) h)
@@ -234,6 +228,6 @@ module _ (e : Event) where
 
 pub nobody_leaves_before_his_time : NobodyLeavesBeforeHisTime
 nobody_leaves_before_his_time t seed n s v there is none e stands =
-    let after = ((step_decides t seed s).runs v (sym (run_on t seed n s there) ∙ is)).0 in
+    let after = (step_decides t seed s v (sym (run_on t seed n s there) ∙ is)).0 in
     subst (StaysOrIsDue e) (sym after.is) (moved_there e t s after.move after.is_decided
     (no_clear t s after.move after.is_decided none) stands)

@@ -1,6 +1,6 @@
 -- Nobody waits at a GATE whose condition holds: what a refused attempt read it waits for, and what is not written stays. And whoever
 -- waits so is at a TEST or a GATE without a label.
-use Rattle.std.proofs.Common.{◌≡◌, ◌⊎◌, ℤ, pos, ℕ, zero, suc, Bool, true, false, cond, not, ◌||◌, List, [], ◌∷◌, ◌++◌, filter, Option, Some, None, is_some, nat_eq, nat_le, unwrap_or, Ok, refl, sym, ap, subst, ◌∙◌, inl, inr}
+use Rattle.std.proofs.Common.{◌≡◌, ℤ, pos, ℕ, Bool, true, false, cond, not, ◌||◌, List, [], ◌∷◌, ◌++◌, filter, Option, Some, None, is_some, nat_eq, nat_le, unwrap_or, Ok, refl, sym, ap, subst, ◌∙◌, inl, inr, arith}
 use Rattle.std.specs.Prelude.{Contains}
 use Rattle.std.specs.List.{AllByRecursion, list_any}
 use Rattle.std.proofs.lemmas.Bool.{cases_Bool, false≢true, or_parts, or_left, or_right, eqb-true}
@@ -26,8 +26,6 @@ use Rattle.gw_meaning.specs.declared.auxiliary.Auxiliary.TheVariants as auxiliar
 use Rattle.gw_meaning.specs.declared.auxiliary.Condition.{Condition}
 use Rattle.gw_meaning.specs.declared.auxiliary.Condition.TheVariants as conditions
 use Rattle.gw_meaning.specs.declared.statement.Block.{Block}
-use Rattle.gw_meaning.specs.declared.statement.Command.{Command}
-use Rattle.gw_meaning.specs.declared.statement.Command.TheVariants as commands
 use Rattle.gw_meaning.specs.declared.transaction.Transaction.{Transaction}
 use Rattle.gw_meaning.specs.declared.entity_change.Deed.{Deed}
 use Rattle.gw_meaning.specs.declared.entity_change.Deed.TheVariants as deeds
@@ -43,26 +41,25 @@ use Rattle.gw_meaning.specs.declared.watched.Watched.{Watched}
 use Rattle.gw_meaning.specs.declared.watched.Watched.TheVariants as watched
 use Rattle.gw_meaning.specs.contracts.watched.WatchedEq.TheImpl.Laws as laws
 use Rattle.gw_meaning.specs.Statements.{A, B, operand}
-use Rattle.gw_meaning.specs.Listing.{Listing, block_at, after_at, command_at, number_at, capacity_at, or_next}
+use Rattle.gw_meaning.specs.Listing.{Listing, block_at, number_at, capacity_at}
 use Rattle.gw_meaning.specs.Entities.{Entities, facility_at, line_at, store_at, savevalue_at, switch_at, done, touched, later, table_at}
 use Rattle.gw_meaning.specs.Watching.{Waiter, same_watched, is_watched, with_watched, kind_of, transactions_of}
-use Rattle.gw_meaning.specs.Machine.{Machine, UserChain, raised, user_chain_at, zero_state}
+use Rattle.gw_meaning.specs.Machine.{Machine, UserChain, user_chain_at, zero_state}
 use Rattle.gw_meaning.specs.Questions.{result_of}
 use Rattle.gw_meaning.specs.Evaluation.{Eval, gives, stops_if, numbered, named, entity_prog, entity_traced}
 use Rattle.gw_entities.specs.Records.{Ownership, never_owned, no_line, Store, never_used, Line}
 use Rattle.gw_meaning.specs.Changes.{placed, marked, changed, written_by, written_in, entering, refused, watching, with_active, moved, written_where, written, is_woken, decided}
-use Rattle.gw_meaning.specs.Step.{for_one, is_open, kind_of_condition, reads_capacity, pass_or_wait, lead_to, go_to, gate_at, gate_storage, gate_other, gate_of, gate_prog, block_prog, meet_prog, try_prog, attempt_prog, scan_prog, move_prog, decide, run}
+use Rattle.gw_meaning.specs.Step.{for_one, is_open, kind_of_condition, reads_capacity, pass_or_wait, lead_to, go_to, gate_at, gate_storage, gate_other, gate_of, gate_prog, block_prog, meet_prog, decide, run}
 use Rattle.gw_frame.proofs.Moves.{settled, settled_is, linked_behind, split_is, with_active_has, picked_has}
-use Rattle.gw_frame.proofs.Running.{last_step}
+use Rattle.gw_frame.proofs.Running.{over_steps}
 use Rattle.gw_laws.specs.Destinations.{goes_to, IsTestOrGate, IsAtATestOrAGate}
 use Rattle.gw_laws.specs.Waiters.{named_key, key_written, capacity_of, NobodyWaitsAtAnOpenGate, WhoWaitsIsAtATestOrAGate}
 use Rattle.gw_laws.proofs.Waiting.{let_in_is}
 use Rattle.gw_laws.proofs.Linking.{chain_there, admitted_chain, unlinked_there}
-use Rattle.gw_laws.proofs.EndLaws.{went_on}
-use Rattle.gw_laws.proofs.Tried.{Comes, comes_gives, comes_ends, comes_asks, comes_bind, comes_then, comes_more, comes_any, IsOfNobody, IsCommand, command_next, pick_next, changed_keeps}
+use Rattle.gw_laws.proofs.Tried.{Comes, comes_gives, comes_ends, comes_asks, comes_bind, comes_then, comes_more, comes_any, changed_keeps}
 use Rattle.gw_laws.proofs.Entries.{at_with}
-use Rattle.gw_laws.proofs.Trying.{gives_so}
-use Rattle.gw_laws.proofs.Attempts.{IsAtOr, WaitsAtVerb, WaitsAtBlock, LinksAtBlock, meet_waits}
+use Rattle.gw_frame.proofs.Known.{WaitsAtVerb, IsAttempt, IsStep}
+use Rattle.gw_frame.proofs.Decided.{move_is_step}
 use Rattle.gw_laws.proofs.WaiterLaws.{stands_of, all_stands, who_comes, waits_on, retry_decided}
 use Rattle.gw_laws.proofs.Anew.{owner_reset, queue_reset, storage_reset, chain_members}
 use Rattle.gw_laws.specs.Anew.{Resets, Clears}
@@ -143,21 +140,11 @@ kept_same kinds.Table key e f same = tt
 
 entity_itself : (kind : EntityKind) (key : Key) (e : Kept) → SameEntity kind key e e
 entity_itself kinds.Facility key e = refl
-entity_itself kinds.Queue key e = refl
-entity_itself kinds.Storage key e = refl
-entity_itself kinds.Savevalue key e = refl
-entity_itself kinds.Switch key e = refl
-entity_itself kinds.UserChain key e = refl
-entity_itself kinds.Table key e = refl
+entity_itself kind key e = refl
 
 later_same : (kind : EntityKind) (key : Key) (before now : ℕ) (e : Kept) → SameEntity kind key e (later before now e.0, e.1)
 later_same kinds.Facility key before now e = refl
-later_same kinds.Queue key before now e = refl
-later_same kinds.Storage key before now e = refl
-later_same kinds.Savevalue key before now e = refl
-later_same kinds.Switch key before now e = refl
-later_same kinds.UserChain key before now e = refl
-later_same kinds.Table key before now e = refl
+later_same kind key before now e = refl
 
 -- the value of another key
 other_stays : {V : Type 0} (none : V) (es : List (Key × V)) (other : Key) (v : V) (key : Key) → key_eq key other ≡ false →
@@ -168,19 +155,13 @@ other_stays none es other v key apart = at_with none es other v key ∙ ap (λ b
 done_same : (kind : EntityKind) (key other : Key) (deed : Deed) (clock number : ℕ) (e : Kept) →
     same_watched (watched.Entity kind key) (watched.Entity (kind_of deed) other) ≡ false → SameEntity kind key e (done other deed clock number e.0, e.1)
 done_same kinds.Facility key other (deeds.Facility deed) clock number e apart = other_stays never_owned e.0.facilities other _ key apart
-done_same kinds.Facility key other deed clock number e apart = refl
 done_same kinds.Queue key other (deeds.Queue deed) clock number e apart = other_stays no_line e.0.queues other _ key apart
-done_same kinds.Queue key other deed clock number e apart = refl
 done_same kinds.Storage key other (deeds.Storage deed) clock number e apart = other_stays never_used e.0.storages other _ key apart
-done_same kinds.Storage key other deed clock number e apart = refl
 done_same kinds.Savevalue key other (deeds.Savevalue to) clock number e apart =
     value_of-with_value e.0.savevalues other to key ∙ ap (λ b. cond b (Some to) (value_of e.0.savevalues key)) apart
-done_same kinds.Savevalue key other deed clock number e apart = refl
 done_same kinds.Switch key other (deeds.Switch set) clock number e apart = other_stays false e.0.switches other set key apart
-done_same kinds.Switch key other deed clock number e apart = refl
-done_same kinds.UserChain key other deed clock number e apart = refl
 done_same kinds.Table key other (deeds.Table value) clock number e apart = other_stays [] e.0.tables other _ key apart
-done_same kinds.Table key other deed clock number e apart = refl
+done_same kind key other deed clock number e apart = refl
 
 entering_entities : (s : Machine) (x : Transaction) (id : ℕ) (change : Change) (fate : Fate) →
     (entering s x id change fate).entities ≡ touched change s.clock x.number s.entities
@@ -201,33 +182,24 @@ touched_same : (s : Machine) (x : Transaction) (change : Change) (kind : EntityK
 touched_same s x (changes.Entity change) kind key unwritten =
     let parts = or_parts (same_watched (watched.Entity kind key) (watched.Entity (kind_of change.1) change.0)) _ unwritten in
     done_same kind key change.0 change.1 s.clock x.number (kept_of s) parts.0
-touched_same s x (changes.Generate next) kind key unwritten = entity_itself kind key (kept_of s)
-touched_same s x (changes.Transaction change) kind key unwritten = entity_itself kind key (kept_of s)
-touched_same s x (changes.Split count to) kind key unwritten = entity_itself kind key (kept_of s)
-touched_same s x (changes.Unlink chain count to) kind key unwritten = entity_itself kind key (kept_of s)
-touched_same s x changes.Nothing kind key unwritten = entity_itself kind key (kept_of s)
+touched_same s x change kind key unwritten = entity_itself kind key (kept_of s)
 
 -- a user chain that is not written stays
 fated_chain : (fate : Fate) (x : Transaction) (cs : List (Key × UserChain)) (key : Key) →
     is_watched (written_in fate) (watched.Entity kinds.UserChain key) ≡ false → user_chain_at (linked_behind fate x cs) key ≡ user_chain_at cs key
-fated_chain fates.Active x cs key unwritten = refl
-fated_chain fates.Current x cs key unwritten = refl
-fated_chain (fates.Delayed until) x cs key unwritten = refl
 fated_chain (fates.Linked chain discipline) x cs key unwritten =
     let parts = or_parts (same_watched (watched.Entity kinds.UserChain key) (watched.Entity kinds.UserChain chain)) false unwritten in
     chain_there cs key chain _ parts.0
-fated_chain (fates.Destroyed count) x cs key unwritten = refl
+fated_chain fate x cs key unwritten = refl
 
 changed_chain : (s v : Machine) (change : Change) (key : Key) → is_watched (written_by change s) (watched.Entity kinds.UserChain key) ≡ false →
     user_chain_at (changed change v).linked key ≡ user_chain_at v.linked key
-changed_chain s v (changes.Generate next) key unwritten = refl
-changed_chain s v (changes.Transaction change) key unwritten = refl
 changed_chain s v (changes.Split count to) key unwritten = ap (λ cs. user_chain_at cs key) (split_is v count to).linked
 changed_chain s v (changes.Unlink chain count to) key unwritten =
     let parts = or_parts (same_watched (watched.Entity kinds.UserChain key) (watched.Entity kinds.UserChain chain)) false unwritten in
     unlinked_there count chain to v key parts.0
 changed_chain s v (changes.Entity change) key unwritten = admitted_chain change.0 change.1 v key
-changed_chain s v changes.Nothing key unwritten = refl
+changed_chain s v change key unwritten = refl
 
 entered_chain : (s : Machine) (x : Transaction) (id : ℕ) (change : Change) (fate : Fate) (key : Key) →
     is_watched (written_by change s) (watched.Entity kinds.UserChain key) ≡ false →
@@ -241,13 +213,8 @@ entered_chain s x id change fate key by_change by_fate =
 -- what is known of the entities and of the user chains, put together
 both_same : (kind : EntityKind) (key : Key) (e : Kept) (f : Entities) (cs : List (Key × UserChain)) → SameEntity kind key e (f, e.1) →
     (kind ≡ kinds.UserChain → user_chain_at cs key ≡ user_chain_at e.1 key) → SameEntity kind key e (f, cs)
-both_same kinds.Facility key e f cs same chain = same
-both_same kinds.Queue key e f cs same chain = same
-both_same kinds.Storage key e f cs same chain = same
-both_same kinds.Savevalue key e f cs same chain = same
-both_same kinds.Switch key e f cs same chain = same
 both_same kinds.UserChain key e f cs same chain = chain refl
-both_same kinds.Table key e f cs same chain = same
+both_same kind key e f cs same chain = same
 
 entered_same : (s : Machine) (x : Transaction) (id : ℕ) (change : Change) (fate : Fate) (kind : EntityKind) (key : Key) →
     is_watched (written_where (Some x) id change fate s) (watched.Entity kind key) ≡ false →
@@ -315,14 +282,9 @@ open_same s u conditions.NotFull key capacity h = ap (λ (n : ℕ). not (nat_le 
 
 unheeded : (s : Machine) (condition : Condition) (key : Key) (m n : ℕ) → reads_capacity condition ≡ false →
     is_open s condition key m ≡ is_open s condition key n
-unheeded s conditions.InUse key m n none = refl
-unheeded s conditions.NotInUse key m n none = refl
-unheeded s conditions.IsSet key m n none = refl
-unheeded s conditions.IsReset key m n none = refl
-unheeded s conditions.Empty key m n none = refl
-unheeded s conditions.NotEmpty key m n none = refl
 unheeded s conditions.Full key m n none = absurd cc
 unheeded s conditions.NotFull key m n none = absurd cc
+unheeded s condition key m n none = refl
 
 -- it does not hold of the entity with a key, and that was read
 abbrev IsShut : Machine → Condition → Key → ℕ → List Watched → Type 0
@@ -335,73 +297,15 @@ abbrev pub IfWatches : (List Watched → Type 0) → Move → Type 0
 IfWatches P (moves.Watch read) = P read
 IfWatches P m = Unit {0}
 
--- no attempt of a transaction
-abbrev pub IsNoAttempt : Move → Type 0
-IsNoAttempt (moves.Enter id change fate) = ⊥
-IsNoAttempt (moves.Refuse id key units) = ⊥
-IsNoAttempt (moves.Watch read) = ⊥
-IsNoAttempt m = Unit {0}
-
-of_nobody : (m : Move) → IsOfNobody m → IsNoAttempt m
-of_nobody moves.Pick h = tt
-of_nobody (moves.Clock time) h = tt
-of_nobody m h = absurd h
-
-of_command : (c : Option Command) (m : Move) → IsCommand c m → IsNoAttempt m
-of_command (Some (commands.Start count)) (moves.Start n arrivals) h = tt
-of_command (Some (commands.Rmult values)) moves.Command h = tt
-of_command (Some commands.Reset) moves.Reset h = tt
-of_command (Some commands.Clear) moves.Clear h = tt
-of_command c m h = absurd h
+abbrev pub IsRefusedAt : Listing → ℕ → Machine → List Watched → Type 0
+IsRefusedAt t seed s read = IsAttempt t seed s (moves.Watch read)
 
 module _ (t : Listing) (seed : ℕ) (s : Machine) where
-  -- a block is tried, and this comes of it
-  pub record IsTriedAt (m : Move) : Type 0 where
-    pub x : Transaction
-    pub active : s.active ≡ Some x
-    pub id : ℕ
-    pub goes : goes_to t x ≡ Some id
-    pub before : List Stream
-    pub after : List Stream
-    pub tries : result_of t seed (meet_prog s x id (block_at t id) before) ≡ Ok (m, after)
-
-  abbrev pub IsRefusedAt : List Watched → Type 0
-  IsRefusedAt read = IsTriedAt (moves.Watch read)
-
-  abbrev IsTriedOr : Move → Type 0
-  IsTriedOr m = IsTriedAt m ⊎ IsNoAttempt m
-
-  try_tried : (x : Transaction) (to : Option ℕ) → s.active ≡ Some x → goes_to t x ≡ to → Comes t seed IsTriedOr (try_prog s x to)
-  try_tried x None active goes = comes_ends
-  try_tried x (Some id) active goes = comes_asks (items.Block id) (record {
-    from = λ streams r is. inl (record { x = x; active = active; id = id; goes = goes; before = streams; after = r.1; tries = is });
-  })
-
-  attempt_tried : (x : Transaction) (destination : Option ℕ) → s.active ≡ Some x → x.destination ≡ destination →
-      Comes t seed IsTriedOr (attempt_prog s x destination)
-  attempt_tried x None active is =
-      comes_asks (items.After x.current) (try_tried x (after_at t x.current) active (ap (λ o. or_next o (after_at t x.current)) is))
-  attempt_tried x (Some id) active is = try_tried x (Some id) active (ap (λ o. or_next o (after_at t x.current)) is)
-
-  scan_tried : (o : Option Transaction) → s.active ≡ o → Comes t seed IsTriedOr (scan_prog s o)
-  scan_tried None is = comes_more (λ m h. inr (of_nobody m h)) (pick_next t seed s s.current)
-  scan_tried (Some x) is = attempt_tried x x.destination is refl
-
-  move_tried : (remaining : ℕ) → Comes t seed IsTriedOr (move_prog s remaining)
-  move_tried zero = comes_asks (items.Cmd (raised s.commands))
-      (comes_more (λ m h. inr (of_command (command_at t (raised s.commands)) m h)) (command_next t seed s (command_at t (raised s.commands))))
-  move_tried (suc n) = scan_tried s.active refl
-
-  -- what is decided comes of a block that is tried, or is no attempt
-  pub tried_at : (d : Move × List Stream) → result_of t seed (decide s) ≡ Ok d → IsTriedAt d.0 ⊎ IsNoAttempt d.0
-  tried_at d is = (move_tried s.remaining).from s.streams d is
-
-  pub refused_at : (d : Move × List Stream) → result_of t seed (decide s) ≡ Ok d → IfWatches IsRefusedAt d.0
-  refused_at d is = go d.0 (tried_at d is) where
-    go : (m : Move) → IsTriedAt m ⊎ IsNoAttempt m → IfWatches IsRefusedAt m
-    go (moves.Watch read) (inl tried) = tried
-    go (moves.Watch read) (inr none) = absurd none
-    go m h = tt
+  pub refused_at : (d : Move × List Stream) → result_of t seed (decide s) ≡ Ok d → IfWatches (IsRefusedAt t seed s) d.0
+  refused_at d is = go d.0 (move_is_step t seed s s.streams d is) where
+    go : (m : Move) → IsStep t seed s m → IfWatches (IsRefusedAt t seed s) m
+    go (moves.Watch read) step = step.1
+    go m step = tt
 
   -- ---- at a GATE
 
@@ -519,17 +423,6 @@ module _ (t : Listing) (seed : ℕ) (s : Machine) where
 
 -- ---- over a run
 
--- what each step's decision keeps, each run from zero has
-pub over_decided : (t : Listing) (seed : ℕ) (P : ℕ → Machine → Type 0) → P 0 zero_state →
-    ((n : ℕ) (s : Machine) (d : Move × List Stream) → run t seed n ≡ Ok s → result_of t seed (decide s) ≡ Ok d → P n s → P (suc n) (decided s d.0 d.1)) →
-    (n : ℕ) (s : Machine) → run t seed n ≡ Ok s → P n s
-over_decided t seed P start keeps zero s is = let same : zero_state ≡ s = cc in subst (P 0) same start
-over_decided t seed P start keeps (suc n) v is =
-    let last = last_step t seed n v is in
-    let went = went_on t seed last.before v last.goes in
-    subst (P (suc n)) (sym went.2)
-    (keeps n last.before went.0 last.there went.1 (over_decided t seed P start keeps n last.before last.there))
-
 -- what holds of each who waits, and of whoever comes, holds of each who waits behind a step
 pub all_wait_on : (P Q : Waiter → Type 0) (s : Machine) (m : Move) (streams : List Stream) → AllByRecursion P s.retry →
     AllByRecursion P (who_comes m s.active) → ((w : Waiter) → (Clears m → ⊥) → is_woken (written s m) w ≡ false → P w → Q w) →
@@ -559,6 +452,14 @@ AtGate t s w =
 pub one_of : {X : Type 0} (x y : X) → Some x ≡ Some y → x ≡ y
 one_of x y is = cc
 
+-- the block that is tried is the one that stands where it goes
+pub tried_here : (t : Listing) (seed : ℕ) (s : Machine) (m : Move) (a : IsAttempt t seed s m) (id : ℕ) (b : Block) → goes_to t a.who ≡ Some id →
+    block_at t id ≡ Some b → result_of t seed (meet_prog s a.who a.id (Some b) a.before) ≡ Ok (m, a.after)
+tried_here t seed s m a id b goes there =
+    let same : a.id ≡ id = one_of a.id id (sym a.goes ∙ goes) in
+    let at : a.block ≡ b = one_of a.block b (sym a.there ∙ (ap (block_at t) same ∙ there)) in
+    subst (λ c. result_of t seed (meet_prog s a.who a.id (Some c) a.before) ≡ Ok (m, a.after)) at a.comes
+
 gate_tried : (t : Listing) (seed : ℕ) (s : Machine) (x : Transaction) (id : ℕ) (b : Block) (condition : Condition) →
     b.verb ≡ blocks.Gate → b.auxiliary ≡ auxiliaries.Gate condition →
     Comes t seed (IfWatches (IsShutFor t seed s condition (operand b A))) (meet_prog s x id (Some b))
@@ -568,13 +469,10 @@ gate_tried t seed s x id b condition verb sort =
     (sym sort) (gate_of_shut t seed s (for_one s x) id condition (operand b A) (operand b B)))
 
 gate_refused : (t : Listing) (seed : ℕ) (s : Machine) (read : List Watched) (r : IsRefusedAt t seed s read) →
-    AtGate t s (record { transaction = r.x; read = read })
+    AtGate t s (record { transaction = r.who; read = read })
 gate_refused t seed s read r id b condition key goes there verb sort named =
-    let same : r.id ≡ id = one_of r.id id (sym r.goes ∙ goes) in
-    let at : block_at t r.id ≡ Some b = ap (block_at t) same ∙ there in
-    let tries : result_of t seed (meet_prog s r.x r.id (Some b) r.before) ≡ Ok (moves.Watch read, r.after) =
-    subst (λ o. result_of t seed (meet_prog s r.x r.id o r.before) ≡ Ok (moves.Watch read, r.after)) at r.tries in
-    (gate_tried t seed s r.x r.id b condition verb sort).from r.before (moves.Watch read, r.after) tries key named
+    let tries = tried_here t seed s (moves.Watch read) r id b goes there in
+    (gate_tried t seed s r.who r.id b condition verb sort).from r.before (moves.Watch read, r.after) tries key named
 
 gate_stays : (t : Listing) (s : Machine) (m : Move) (streams : List Stream) (w : Waiter) → (Clears m → ⊥) → is_woken (written s m) w ≡ false → AtGate t s w →
     AtGate t (decided s m streams) w
@@ -586,18 +484,18 @@ gate_stays t s m streams w apart unread gate = λ id b condition key goes there 
 
 -- what is known of whoever comes, by what is known of the refusal
 pub who_comes_has : (P : Waiter → Type 0) (t : Listing) (seed : ℕ) (s : Machine) (m : Move) →
-    ((read : List Watched) (r : IsRefusedAt t seed s read) → P (record { transaction = r.x; read = read })) →
+    ((read : List Watched) (r : IsRefusedAt t seed s read) → P (record { transaction = r.who; read = read })) →
     IfWatches (IsRefusedAt t seed s) m → AllByRecursion P (who_comes m s.active)
 who_comes_has P t seed s (moves.Watch read) each r =
     subst (λ o. AllByRecursion P (who_comes (moves.Watch read) o)) (sym r.active) (each read r, tt)
 who_comes_has P t seed s m each r = tt
 
 gates_are_shut : (t : Listing) (seed n : ℕ) (s : Machine) → run t seed n ≡ Ok s → AllByRecursion (AtGate t s) s.retry
-gates_are_shut t seed =
-    over_decided t seed (λ n s. AllByRecursion (AtGate t s) s.retry) tt
-    (λ n s d there goes all. all_wait_on (AtGate t s) (AtGate t (decided s d.0 d.1)) s d.0 d.1 all
-    (who_comes_has (AtGate t s) t seed s d.0 (gate_refused t seed s) (refused_at t seed s d goes))
-    (gate_stays t s d.0 d.1))
+gates_are_shut t seed n s is =
+    over_steps t seed (λ n s. AllByRecursion (AtGate t s) s.retry) 0 zero_state refl tt
+    (λ n s m streams from there goes all. all_wait_on (AtGate t s) (AtGate t (decided s m streams)) s m streams all
+    (who_comes_has (AtGate t s) t seed s m (gate_refused t seed s) (refused_at t seed s (m, streams) goes))
+    (gate_stays t s m streams)) n s (omega arith) is
 
 pub nobody_waits_at_an_open_gate : NobodyWaitsAtAnOpenGate
 nobody_waits_at_an_open_gate t seed n s is w id b condition key waits goes there verb sort named =
@@ -610,26 +508,18 @@ of_verb b blocks.Test is none = inl (is, none)
 of_verb b blocks.Gate is none = inr (is, none)
 of_verb b verb is none = absurd none
 
-refused_there : (t : Listing) (seed : ℕ) (s : Machine) (read : List Watched) (r : IsRefusedAt t seed s read) → IsAtATestOrAGate t r.x
-refused_there t seed s read r = go (block_at t r.id) refl waits where
-  waits : WaitsAtBlock (block_at t r.id)
-  waits =
-      gives_so t seed (λ (d : Move × List Stream). IsAtOr (WaitsAtBlock (block_at t r.id)) (LinksAtBlock (block_at t r.id)) r.id d.0)
-      (meet_prog s r.x r.id (block_at t r.id) r.before)
-      (moves.Watch read, r.after) ((meet_waits s r.x r.id (block_at t r.id)).from r.before) r.tries
-
-  go : (o : Option Block) → block_at t r.id ≡ o → WaitsAtBlock o → IsAtATestOrAGate t r.x
-  go None there none = absurd none
-  go (Some b) there at' = (r.id, b, r.goes, there, of_verb b b.verb refl at')
+refused_there : (t : Listing) (seed : ℕ) (s : Machine) (read : List Watched) (r : IsRefusedAt t seed s read) → IsAtATestOrAGate t r.who
+refused_there t seed s read r = (r.id, r.block, r.goes, r.there, of_verb r.block r.block.verb refl r.tried.0)
 
 abbrev IsThere : Listing → Waiter → Type 0
 IsThere t w = IsAtATestOrAGate t w.transaction
 
 all_there : (t : Listing) (seed n : ℕ) (s : Machine) → run t seed n ≡ Ok s → AllByRecursion (IsThere t) s.retry
-all_there t seed =
-    over_decided t seed (λ n s. AllByRecursion (IsThere t) s.retry) tt
-    (λ n s d there goes all. all_wait_on (IsThere t) (IsThere t) s d.0 d.1 all
-    (who_comes_has (IsThere t) t seed s d.0 (refused_there t seed s) (refused_at t seed s d goes)) (λ w apart unread is. is))
+all_there t seed n s is =
+    over_steps t seed (λ n s. AllByRecursion (IsThere t) s.retry) 0 zero_state refl tt
+    (λ n s m streams from there goes all. all_wait_on (IsThere t) (IsThere t) s m streams all
+    (who_comes_has (IsThere t) t seed s m (refused_there t seed s) (refused_at t seed s (m, streams) goes)) (λ w apart unread is. is))
+    n s (omega arith) is
 
 pub who_waits_is_at_a_test_or_a_gate : WhoWaitsIsAtATestOrAGate
 who_waits_is_at_a_test_or_a_gate t seed n s is w waits = all_stands (IsThere t) s.retry w (all_there t seed n s is) (stands_of s.retry w waits)

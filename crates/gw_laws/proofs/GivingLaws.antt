@@ -109,14 +109,14 @@ module _ (q : Key) where
   moved_passes t s moves.Clear decided apart = absurd (apart tt)
   moved_passes t s m decided apart = inl refl
 
-  behind_passes : (t : Listing) (s v : Machine) (after : IsAfter t s v) → (Clears after.move → ⊥) → Passes s v.entities
-  behind_passes t s v after apart = subst (λ w. Passes s w.entities) (sym after.is) (moved_passes t s after.move after.is_decided apart)
+  behind_passes : (t : Listing) (seed : ℕ) (s v : Machine) (after : IsAfter t seed s v) → (Clears after.move → ⊥) → Passes s v.entities
+  behind_passes t seed s v after apart = subst (λ w. Passes s w.entities) (sym after.is) (moved_passes t s after.move after.is_decided apart)
 
   step_passes : (t : Listing) (seed n : ℕ) (s v : Machine) → run t seed n ≡ Ok s → run t seed (suc n) ≡ Ok v → IsNoClear t s →
       Passes s v.entities
   step_passes t seed n s v there is none =
-      let after = ((step_decides t seed s).runs v (sym (run_on t seed n s there) ∙ is)).0 in
-      behind_passes t s v after (no_clear t s after.move after.is_decided none)
+      let after = (step_decides t seed s v (sym (run_on t seed n s there) ∙ is)).0 in
+      behind_passes t seed s v after (no_clear t s after.move after.is_decided none)
 
 pub only_the_owner_gives_back : OnlyTheOwnerGivesBack
 only_the_owner_gives_back t seed n s v there is none key number owned =
@@ -140,10 +140,10 @@ the_first_is_given_it t seed n s v there is none key number owned =
 
 pub only_the_active_takes : OnlyTheActiveTakes
 only_the_active_takes t seed n s v there is key number free taken =
-    let after = ((step_decides t seed s).runs v (sym (run_on t seed n s there) ∙ is)).0 in
+    let after = (step_decides t seed s v (sym (run_on t seed n s there) ∙ is)).0 in
     elim (clears_or after.move) [
       | inl clears ↦ absurd (free_behind after.move after.streams after.is clears)
-      | inr apart ↦ elim (behind_passes key t s v after apart) [
+      | inr apart ↦ elim (behind_passes key t seed s v after apart) [
         | inl same ↦ absurd (let no : None ≡ Some number = sym free ∙ (sym same ∙ taken) in cc)
         | inr passed ↦ elim passed.2 [
           | inl his ↦ absurd (let no : None ≡ Some passed.0.number = sym free ∙ his.0 in cc)

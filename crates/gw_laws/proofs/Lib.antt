@@ -20,12 +20,11 @@ pub mod ParameterLaws
 pub mod OwnParameterLaws
 pub mod OwnValueLaws
 pub mod PlaceLaws
+pub mod EntityLaws
 pub mod FacilityLaws
 pub mod QueueLaws
 pub mod StorageLaws
 pub mod ShareLaws
-pub mod Trying
-pub mod Attempts
 pub mod EndLaws
 pub mod PickLaws
 pub mod Tried

@@ -7,17 +7,17 @@ use Rattle.gw_meaning.specs.declared.moves.Move.{Move}
 use Rattle.gw_meaning.specs.declared.moves.Move.TheVariants as moves
 use Rattle.gw_meaning.specs.Listing.{Listing}
 use Rattle.gw_meaning.specs.Machine.{Machine}
-use Rattle.gw_meaning.specs.Changes.{Making, made, all_made, making_of, with_making, newcomer, started, refused, moved, watching, written, woken}
+use Rattle.gw_meaning.specs.Changes.{Making, made, all_made, making_of, with_making, newcomer, started, moved, written, woken}
 use Rattle.gw_meaning.proofs.Programs.{run_on}
 use Rattle.gw_meaning.specs.declared.watched.Watched.{Watched}
 use Rattle.gw_laws.specs.Living.{living}
 use Rattle.gw_laws.specs.Numbering.{OnlyTheActiveGoes, lives}
 use Rattle.gw_frame.proofs.Decided.{step_decides}
 use Rattle.gw_frame.proofs.Known.{IsDecided}
-use Rattle.gw_frame.proofs.Moves.{with_active_has, entered_has, picked_has}
-use Rattle.gw_laws.proofs.Crowd.{one, crowd, active_crowd, many_living, future_push, settled_crowd, refused_crowd, copied_crowd, unlinked_crowd, picked_crowd, advanced_crowd, watching_crowd, woken_crowd}
+use Rattle.gw_frame.proofs.Moves.{entered_has}
+use Rattle.gw_laws.proofs.Crowd.{one, crowd, active_crowd, many_living, future_push, settled_crowd, copied_crowd, unlinked_crowd, woken_crowd}
 use Rattle.gw_laws.proofs.NumberLaws.{has_number, lets_same, not_alive, alive}
-use Rattle.gw_laws.proofs.Anew.{crowd_reset, no_clear}
+use Rattle.gw_laws.proofs.Anew.{all_stay, no_clear}
 use Rattle.gw_laws.specs.Anew.{Clears}
 
 module _ (k : ℕ) where
@@ -40,8 +40,6 @@ module _ (k : ℕ) where
 
   moved_lives : (t : Listing) (s : Machine) (m : Move) → IsDecided t s m → (Clears m → ⊥) → Lives s → LivesOn s (moved s m)
   moved_lives t s (moves.Start count arrivals) decided apart h = inl (all_made_lives arrivals (making_of s) (started count s) h)
-  moved_lives t s moves.Command decided apart h = inl h
-  moved_lives t s moves.Reset decided apart h = let same = crowd_reset (has_number k) s in inl (omega (arith, h, same))
   moved_lives t s moves.Clear decided apart h = absurd (apart tt)
   moved_lives t s (moves.Enter id change fate) decided apart h =
       entered_has (LivesOn s) (LivesOn s) t s id change fate decided.1 (inl h)
@@ -65,15 +63,8 @@ module _ (k : ℕ) where
             (let same = unlinked_crowd (has_number k) w key to x xs is refl in
             elim g [ inl here ↦ inl (omega (arith, same, here)) | inr was ↦ inr was ]);
       })
-  moved_lives t s (moves.Refuse id key units) decided apart h =
-      with_active_has (LivesOn s) s.active (λ x. refused s x id key units) s (inl h)
-      (λ x is. let same = refused_crowd (has_number k) s x id key units is refl in inl (omega (arith, h, same)))
-  moved_lives t s (moves.Watch read) decided apart h =
-      with_active_has (LivesOn s) s.active (λ x. watching s x read) s (inl h)
-      (λ x is. let same = watching_crowd (has_number k) s x read is in inl (omega (arith, h, same)))
-  moved_lives t s moves.Pick decided apart h =
-      picked_has (LivesOn s) s s.current (inl h) (λ x xs is. let same = picked_crowd (has_number k) s x xs decided is in inl (omega (arith, h, same)))
-  moved_lives t s (moves.Clock time) decided apart h = let same = advanced_crowd (has_number k) s time in inl (omega (arith, h, same))
+  moved_lives t s m decided apart h =
+      let same = (all_stay (has_number k) t s m decided tt (λ x id units. refl)).crowd in inl (omega (arith, h, same))
 
   woken_lives : (list : List Watched) (s v : Machine) → LivesOn s v → LivesOn s (woken list v)
   woken_lives list s v (inl here) = let same = woken_crowd (has_number k) list v in inl (omega (arith, same, here))
@@ -97,7 +88,7 @@ module _ (k : ℕ) where
 
 pub only_the_active_goes : OnlyTheActiveGoes
 only_the_active_goes t seed n s v there is none k here =
-    let after = ((step_decides t seed s).runs v (sym (run_on t seed n s there) ∙ is)).0 in
+    let after = (step_decides t seed s v (sym (run_on t seed n s there) ∙ is)).0 in
     let on : LivesOn k s v = subst (LivesOn k s) (sym after.is)
     (woken_lives k (written s after.move) s (moved s after.move) (moved_lives k t s after.move after.is_decided
     (no_clear t s after.move after.is_decided none) (here_lives k s here))) in

@@ -14,20 +14,19 @@ use Rattle.gw_meaning.specs.declared.moves.Move.{Move}
 use Rattle.gw_meaning.specs.declared.moves.Move.TheVariants as moves
 use Rattle.gw_meaning.specs.Listing.{Listing}
 use Rattle.gw_meaning.specs.Machine.{Machine, delay_at, user_chain_at}
-use Rattle.gw_meaning.specs.Changes.{Making, made, all_made, making_of, with_making, newcomer, placed, marked, started, one_let_in, copied, one_copied, sent, one_unlinked, bound, refused, moved, watching, written, woken}
+use Rattle.gw_meaning.specs.Changes.{Making, made, all_made, making_of, with_making, newcomer, placed, marked, started, one_let_in, copied, one_copied, sent, one_unlinked, bound, moved, written, woken}
 use Rattle.gw_meaning.specs.Step.{run}
 use Rattle.gw_meaning.specs.declared.watched.Watched.{Watched}
 use Rattle.gw_model.specs.Well.{Well}
 use Rattle.gw_laws.specs.Living.{living}
 use Rattle.gw_laws.specs.Numbering.{NumbersAreApart, NumbersAreGiven, NumbersAreGivenOnce}
 use Rattle.gw_frame.proofs.Known.{IsDecided}
-use Rattle.gw_frame.proofs.Moves.{settled, settled_is, marked_same, with_active_has, entered_has, picked_has}
+use Rattle.gw_frame.proofs.Moves.{settled, settled_is, marked_same, entered_has}
 use Rattle.gw_frame.proofs.Running.{over_run, over_rest}
 use Rattle.gw_laws.proofs.Waiting.{let_in_as, let_in_number, let_in_is}
-use Rattle.gw_laws.proofs.Crowd.{one, many, crowd, many_living, future_push, settled_fewer, refused_crowd, lets_crowd, copied_crowd, unlinked_crowd, picked_crowd, advanced_crowd, watching_crowd, woken_crowd}
+use Rattle.gw_laws.proofs.Crowd.{one, many, crowd, many_living, future_push, settled_fewer, lets_crowd, copied_crowd, unlinked_crowd, woken_crowd}
 use Rattle.gw_laws.proofs.Room.{all_within}
-use Rattle.gw_laws.proofs.Anew.{crowd_reset, no_clear}
-use Rattle.gw_meaning.specs.Changes.{reset}
+use Rattle.gw_laws.proofs.Anew.{all_stay, no_clear}
 use Rattle.gw_laws.specs.Anew.{Clears}
 
 abbrev pub has_number : ℕ → Transaction → Bool
@@ -123,8 +122,6 @@ moved_numbered : (t : Listing) (s : Machine) (m : Move) → s.next + length t.li
     IsNumbered (moved s m)
 moved_numbered t s (moves.Start count arrivals) room decided h =
     all_made_numbered arrivals (making_of s) (started count s) (omega (arith, room, decided.few)) (record { apart = h.apart; given = h.given })
-moved_numbered t s moves.Command room decided h = record { apart = h.apart; given = h.given }
-moved_numbered t s moves.Reset room decided h = same_numbered s (reset s) refl (λ k. let same = crowd_reset (has_number k) s in omega arith) h
 moved_numbered t s moves.Clear room decided h = record { apart = λ k. omega arith; given = λ k above. refl }
 moved_numbered t s (moves.Enter id change fate) room decided h =
     entered_has (λ v. (v.next ≡ s.next) × IsNumbered v) IsNumbered t s id change fate decided.1 h
@@ -136,22 +133,9 @@ moved_numbered t s (moves.Enter id change fate) room decided h =
       copies = λ w to x values copying k. copied_numbered to x values w (omega (arith, room, copying.below)) k;
       unlinks = λ w key to x xs named is k. unlinked_numbered w key to x xs is k;
     })
-moved_numbered t s (moves.Refuse id key units) room decided h =
-    with_active_has IsNumbered s.active (λ x. refused s x id key units) s h
-    (λ x is. same_numbered s (refused s x id key units) refl (λ k. let same = refused_crowd (has_number k) s x id key units is refl in omega arith) h)
-moved_numbered t s (moves.Watch read) room decided h =
-    with_active_has IsNumbered s.active (λ x. watching s x read) s h
-    (λ x is. same_numbered s (watching s x read) refl (λ k. let same = watching_crowd (has_number k) s x read is in omega arith) h)
-moved_numbered t s moves.Pick room decided h =
-    picked_has IsNumbered s s.current h
-    (λ x xs is. record {
-      apart = λ k. let same = picked_crowd (has_number k) s x xs decided is in let once = h.apart k in omega arith;
-      given = λ k above. let same = picked_crowd (has_number k) s x xs decided is in let none = h.given k above in omega arith;
-    })
-moved_numbered t s (moves.Clock time) room decided h = record {
-  apart = λ k. let same = advanced_crowd (has_number k) s time in let once = h.apart k in omega arith;
-  given = λ k above. let same = advanced_crowd (has_number k) s time in let none = h.given k above in omega arith;
-}
+moved_numbered t s m room decided h =
+    same_numbered s (moved s m) (all_stay (λ x. true) t s m decided tt (λ x id units. refl)).next
+    (λ k. let same = (all_stay (has_number k) t s m decided tt (λ x id units. refl)).crowd in omega arith) h
 
 -- over a run
 pub all_numbered : (t : Listing) (seed : ℕ) → Well t → (n : ℕ) (s : Machine) → run t seed n ≡ Ok s → n ≤ t.limit → IsNumbered s
@@ -258,8 +242,6 @@ module _ (k : ℕ) (test : Transaction → Bool) (of : IsOf k test) where
       IsGone (moved s m)
   moved_gone t s (moves.Start count arrivals) room decided apart stays h =
       all_made_gone arrivals (making_of s) (started count s) (omega (arith, room, decided.few)) h
-  moved_gone t s moves.Command room decided apart stays h = h
-  moved_gone t s moves.Reset room decided apart stays h = let same = crowd_reset test s in (h.0, omega (arith, same, h.1))
   moved_gone t s moves.Clear room decided apart stays h = absurd (apart tt)
   moved_gone t s (moves.Enter id change fate) room decided apart stays h =
       entered_has (λ v. (v.next ≡ s.next) × IsGone v) IsGone t s id change fate decided.1 h
@@ -275,15 +257,11 @@ module _ (k : ℕ) (test : Transaction → Bool) (of : IsOf k test) where
         copies = λ w to x values copying g. copied_gone to x values w (omega (arith, room, copying.below)) g;
         unlinks = λ w key to x xs named is g. unlinked_gone w key to x xs is g;
       })
-  moved_gone t s (moves.Refuse id key units) room decided apart stays h =
-      with_active_has IsGone s.active (λ x. refused s x id key units) s h
-      (λ x is. let same = refused_crowd test s x id key units is (of.waits x id units) in (h.0, omega (arith, same, h.1)))
-  moved_gone t s (moves.Watch read) room decided apart stays h =
-      with_active_has IsGone s.active (λ x. watching s x read) s h
-      (λ x is. let same = watching_crowd test s x read is in (h.0, omega (arith, same, h.1)))
-  moved_gone t s moves.Pick room decided apart stays h =
-      picked_has IsGone s s.current h (λ x xs is. let same = picked_crowd test s x xs decided is in (h.0, omega (arith, same, h.1)))
-  moved_gone t s (moves.Clock time) room decided apart stays h = let same = advanced_crowd test s time in (h.0, omega (arith, same, h.1))
+  moved_gone t s m room decided apart stays h =
+      let same = all_stay test t s m decided tt of.waits in
+      let next = same.next in
+      let crowd' = same.crowd in
+      (omega (arith, next, h.0), omega (arith, crowd', h.1))
 
   pub woken_gone : (list : List Watched) (s : Machine) → IsGone s → IsGone (woken list s)
   woken_gone list s h = let same = woken_crowd test list s in (h.0, omega (arith, same, h.1))

@@ -138,7 +138,7 @@ module _ (k : ℕ) where
 
 pub parameters_are_ones_own : ParametersAreOnesOwn
 parameters_are_ones_own t seed n s v there is none k given =
-    let after = ((step_decides t seed s).runs v (sym (run_on t seed n s there) ∙ is)).0 in
+    let after = (step_decides t seed s v (sym (run_on t seed n s there) ∙ is)).0 in
     subst (KeepsParameters k s) (sym after.is) (moved_elsewhere k t s after.move (all_low t seed n s there) given after.is_decided
     (no_clear t s after.move after.is_decided none))
 
@@ -248,7 +248,7 @@ module _ (k : ℕ) where
 
 pub one_parameter_is_set : OneParameterIsSet
 one_parameter_is_set t seed n s v well within there is k given lives' =
-    let after = ((step_decides t seed s).runs v (sym (run_on t seed n s there) ∙ is)).0 in
+    let after = (step_decides t seed s v (sym (run_on t seed n s there) ∙ is)).0 in
     elim (clears_or after.move) [
       | inl clears ↦ absurd (
           let none = nobody_lives s v after.move after.streams after.is clears in
@@ -257,7 +257,7 @@ one_parameter_is_set t seed n s v well within there is k given lives' =
       | inr apart ↦ go after apart
     ]
   where
-    go : (after : IsAfter t s v) → (Clears after.move → ⊥) → SetsAtMostOne (values_at s.parameters k) (values_at v.parameters k)
+    go : (after : IsAfter t seed s v) → (Clears after.move → ⊥) → SetsAtMostOne (values_at s.parameters k) (values_at v.parameters k)
     go after apart =
         let room = all_within t seed n s well within there in
         let sets =

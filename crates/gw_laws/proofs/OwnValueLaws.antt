@@ -120,7 +120,7 @@ module _ (x : Transaction) where
 
 pub priorities_are_ones_own : PrioritiesAreOnesOwn
 priorities_are_ones_own t seed n s v well within there is x y lived lives' same =
-    let after = ((step_decides t seed s).runs v (sym (run_on t seed n s there) ∙ is)).0 in
+    let after = (step_decides t seed s v (sym (run_on t seed n s there) ∙ is)).0 in
     let h = all_numbered t seed well n s there within in
     let room = all_within t seed n s well within there in
     elim (clears_or after.move) [

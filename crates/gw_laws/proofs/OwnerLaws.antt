@@ -154,7 +154,7 @@ module _ (q : Key) where
 
 pub first_takes_over : FirstTakesOver
 first_takes_over t seed n s v there is none key facility =
-    let after = ((step_decides t seed s).runs v (sym (run_on t seed n s there) ∙ is)).0 in
+    let after = (step_decides t seed s v (sym (run_on t seed n s there) ∙ is)).0 in
     subst (LetsIn key s) (sym after.is)
     (woken_lets key (written s after.move) s (moved s after.move) after.streams (moved_lets key t s after.move facility after.is_decided
     (no_clear t s after.move after.is_decided none) (all_bound t seed n s there)))
@@ -199,11 +199,7 @@ settled_free t s x id change fate decided h =
     go : (c : Change) → IsDecidedChange t s c → (q : Key) → is_storage q ≡ false →
         (facility_at (touched c s.clock x.number s.entities) q).owner ≡ None → delay_at s.delays q ≡ []
     go (changes.Entity change) decided q facility free = done_free t s change.0 change.1 x.number decided h q facility free
-    go (changes.Generate next) decided q facility free = h q facility free
-    go (changes.Transaction change) decided q facility free = h q facility free
-    go (changes.Split count to) decided q facility free = h q facility free
-    go (changes.Unlink key count to) decided q facility free = h q facility free
-    go changes.Nothing decided q facility free = h q facility free
+    go change decided q facility free = h q facility free
 
 nobody_there : (passed : List Transaction) (x : Transaction) (xs : List Transaction) → [] ≡ passed ++ x ∷ xs → ⊥
 nobody_there [] x xs is = cc
@@ -241,8 +237,6 @@ refused_free t s x id key units refuses h q facility free =
     ]
 
 moved_free : (t : Listing) (s : Machine) (m : Move) → IsDecided t s m → NobodyWaits s → NobodyWaits (moved s m)
-moved_free t s (moves.Start count arrivals) decided h = h
-moved_free t s moves.Command decided h = h
 moved_free t s moves.Reset decided h = λ q facility free. h q facility (sym (owner_reset s q) ∙ free)
 moved_free t s moves.Clear decided h = λ q facility free. refl
 moved_free t s (moves.Enter id change fate) decided h =
@@ -258,7 +252,7 @@ moved_free t s (moves.Refuse id key units) decided h =
     with_active_has NobodyWaits s.active (λ x. refused s x id key units) s h (λ x is. refused_free t s x id key units decided.1 h)
 moved_free t s (moves.Watch read) decided h = with_active_has NobodyWaits s.active (λ x. watching s x read) s h (λ x is. h)
 moved_free t s moves.Pick decided h = picked_has NobodyWaits s s.current h (λ x xs is. h)
-moved_free t s (moves.Clock time) decided h = h
+moved_free t s m decided h = h
 
 pub nobody_waits_at_a_free_facility : NobodyWaitsAtAFreeFacility
 nobody_waits_at_a_free_facility t seed =

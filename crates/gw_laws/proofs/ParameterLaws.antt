@@ -17,17 +17,17 @@ use Rattle.gw_meaning.specs.declared.moves.Move.{Move}
 use Rattle.gw_meaning.specs.declared.moves.Move.TheVariants as moves
 use Rattle.gw_meaning.specs.Listing.{Listing}
 use Rattle.gw_meaning.specs.Machine.{Machine}
-use Rattle.gw_meaning.specs.Changes.{Making, made, all_made, picked, making_of, with_making, placed, marked, held_by, started, let_in, one_let_in, copied, one_copied, one_unlinked, refused, moved, watching, written, woken}
+use Rattle.gw_meaning.specs.Changes.{Making, made, all_made, making_of, with_making, placed, marked, held_by, started, let_in, one_let_in, copied, one_copied, one_unlinked, moved, written, woken}
 use Rattle.gw_meaning.specs.Step.{run}
 use Rattle.gw_laws.specs.Parameters.{ParametersAreOfTheLiving}
 use Rattle.gw_frame.proofs.Known.{IsDecided}
-use Rattle.gw_frame.proofs.Moves.{settled, marked_same, with_active_has, entered_has, picked_has}
+use Rattle.gw_frame.proofs.Moves.{settled, marked_same, entered_has}
 use Rattle.gw_frame.proofs.Running.{over_run}
-use Rattle.gw_laws.proofs.Crowd.{one, remains, active_crowd, settled_crowd, refused_crowd, copied_crowd, unlinked_crowd, picked_crowd, advanced_crowd, watching_crowd, woken_crowd}
+use Rattle.gw_laws.proofs.Crowd.{one, remains, active_crowd, settled_crowd, copied_crowd, unlinked_crowd, woken_crowd}
 use Rattle.gw_laws.proofs.NumberLaws.{has_number, lets_same}
 use Rattle.gw_laws.proofs.Waiting.{leaving}
 use Rattle.gw_laws.proofs.LossLaws.{Lives, made_lives, all_made_lives, lives_here}
-use Rattle.gw_laws.proofs.Anew.{crowd_reset}
+use Rattle.gw_laws.proofs.Anew.{all_stay}
 
 abbrev pub Values : Type 0
 Values = List (Key × ℤ)
@@ -83,14 +83,7 @@ set_has k n held values some =
 change_has : (k n : ℕ) (change : Change) (held : Held) → 1 ≤ times k (held_by change n held) → (k ≡ n) ⊎ (1 ≤ times k held)
 change_has k n (changes.Transaction (own.Assign key to)) held some = set_has k n held (with_value (values_at held n) key to) some
 change_has k n (changes.Transaction (own.Loop key left to)) held some = set_has k n held (with_value (values_at held n) key left) some
-change_has k n (changes.Transaction own.Mark) held some = inr some
-change_has k n (changes.Transaction (own.Priority to)) held some = inr some
-change_has k n (changes.Transaction (own.Transfer to)) held some = inr some
-change_has k n (changes.Generate next) held some = inr some
-change_has k n (changes.Split count to) held some = inr some
-change_has k n (changes.Unlink key count to) held some = inr some
-change_has k n (changes.Entity change) held some = inr some
-change_has k n changes.Nothing held some = inr some
+change_has k n change held some = inr some
 
 inherited_has : (k n : ℕ) (values : Values) (held : Held) → 1 ≤ times k (inherited values n held) → (k ≡ n) ⊎ (1 ≤ times k held)
 inherited_has k n [] held some = inr some
@@ -188,9 +181,6 @@ all_made_parameters arrivals w s = refl
 moved_kept : (t : Listing) (s : Machine) (m : Move) → IsDecided t s m → AreKept s → AreKept (moved s m)
 moved_kept t s (moves.Start count arrivals) decided h =
     same_kept s (moved s (moves.Start count arrivals)) refl (λ k lived. all_made_lives k arrivals (making_of s) (started count s) lived) h
-moved_kept t s moves.Command decided h = same_kept s (moved s moves.Command) refl (λ k lived. lived) h
-moved_kept t s moves.Reset decided h =
-    same_kept s (moved s moves.Reset) refl (λ k lived. let same = crowd_reset (has_number k) s in omega arith) h
 moved_kept t s moves.Clear decided h = record { alive = λ k some. absurd (omega arith) }
 moved_kept t s (moves.Enter id change fate) decided h =
     entered_has AreKept AreKept t s id change fate decided.1 h (λ x is. settled_kept s x id change is h fate)
@@ -205,18 +195,9 @@ moved_kept t s (moves.Enter id change fate) decided h =
           same_kept w (one_unlinked key to x xs w) refl
           (λ k lived. let same = unlinked_crowd (has_number k) w key to x xs is refl in omega arith) g;
     })
-moved_kept t s (moves.Refuse id key units) decided h =
-    with_active_has AreKept s.active (λ x. refused s x id key units) s h
-    (λ x is. same_kept s (refused s x id key units) refl
-    (λ k lived. let same = refused_crowd (has_number k) s x id key units is refl in omega arith) h)
-moved_kept t s (moves.Watch read) decided h =
-    with_active_has AreKept s.active (λ x. watching s x read) s h
-    (λ x is. same_kept s (watching s x read) refl (λ k lived. let same = watching_crowd (has_number k) s x read is in omega arith) h)
-moved_kept t s moves.Pick decided h =
-    picked_has AreKept s s.current h
-    (λ x xs is. same_kept s (picked s (x ∷ xs)) refl (λ k lived. let same = picked_crowd (has_number k) s x xs decided is in omega arith) h)
-moved_kept t s (moves.Clock time) decided h =
-    same_kept s (moved s (moves.Clock time)) refl (λ k lived. let same = advanced_crowd (has_number k) s time in omega arith) h
+moved_kept t s m decided h =
+    same_kept s (moved s m) (all_stay (λ x. true) t s m decided tt (λ x id units. refl)).parameters
+    (λ k lived. let same = (all_stay (has_number k) t s m decided tt (λ x id units. refl)).crowd in omega arith) h
 
 -- over a run
 pub all_kept : (t : Listing) (seed n : ℕ) (s : Machine) → run t seed n ≡ Ok s → AreKept s

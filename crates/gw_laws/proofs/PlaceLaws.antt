@@ -96,54 +96,35 @@ module _ (test : Transaction → Bool) where
       let some = two_shares (members_of cs) key other apart in
       omega arith
 
+  -- those in a place are among those in all places of its kind
+  abbrev part : Machine → Place → ℕ
+  part s (OnDelay key) = many test (waiting s.delays)
+  part s (OnUserChain key) = many test (waiting (members_of s.linked))
+  part s p = share s p
+
+  share_in : (s : Machine) (p : Place) → share s p ≤ part s p
+  share_in s (OnDelay key) = delay_share s.delays key
+  share_in s (OnUserChain key) = chain_share s.linked key
+  share_in s p = omega arith
+
   -- where at most one passes, the place of one who passes is the only one
   one_place : (s : Machine) (p q : Place) → crowd test s ≤ 1 → 1 ≤ share s p → 1 ≤ share s q → p ≡ q
   one_place s Active Active once here there = refl
-  one_place s Active OnCurrent once here there = absurd (omega (arith, once, here, there))
-  one_place s Active OnFuture once here there = absurd (omega (arith, once, here, there))
-  one_place s Active OnRetry once here there = absurd (omega (arith, once, here, there))
-  one_place s Active (OnDelay key) once here there = absurd (let some = delay_share s.delays key in omega (arith, once, here, there, some))
-  one_place s Active (OnUserChain key) once here there = absurd (let some = chain_share s.linked key in omega (arith, once, here, there, some))
-  one_place s OnCurrent Active once here there = absurd (omega (arith, once, here, there))
   one_place s OnCurrent OnCurrent once here there = refl
-  one_place s OnCurrent OnFuture once here there = absurd (omega (arith, once, here, there))
-  one_place s OnCurrent OnRetry once here there = absurd (omega (arith, once, here, there))
-  one_place s OnCurrent (OnDelay key) once here there = absurd (let some = delay_share s.delays key in omega (arith, once, here, there, some))
-  one_place s OnCurrent (OnUserChain key) once here there = absurd (let some = chain_share s.linked key in omega (arith, once, here, there, some))
-  one_place s OnFuture Active once here there = absurd (omega (arith, once, here, there))
-  one_place s OnFuture OnCurrent once here there = absurd (omega (arith, once, here, there))
   one_place s OnFuture OnFuture once here there = refl
-  one_place s OnFuture OnRetry once here there = absurd (omega (arith, once, here, there))
-  one_place s OnFuture (OnDelay key) once here there = absurd (let some = delay_share s.delays key in omega (arith, once, here, there, some))
-  one_place s OnFuture (OnUserChain key) once here there = absurd (let some = chain_share s.linked key in omega (arith, once, here, there, some))
-  one_place s OnRetry Active once here there = absurd (omega (arith, once, here, there))
-  one_place s OnRetry OnCurrent once here there = absurd (omega (arith, once, here, there))
-  one_place s OnRetry OnFuture once here there = absurd (omega (arith, once, here, there))
   one_place s OnRetry OnRetry once here there = refl
-  one_place s OnRetry (OnDelay key) once here there = absurd (let some = delay_share s.delays key in omega (arith, once, here, there, some))
-  one_place s OnRetry (OnUserChain key) once here there = absurd (let some = chain_share s.linked key in omega (arith, once, here, there, some))
-  one_place s (OnDelay key) Active once here there = absurd (let some = delay_share s.delays key in omega (arith, once, here, there, some))
-  one_place s (OnDelay key) OnCurrent once here there = absurd (let some = delay_share s.delays key in omega (arith, once, here, there, some))
-  one_place s (OnDelay key) OnFuture once here there = absurd (let some = delay_share s.delays key in omega (arith, once, here, there, some))
-  one_place s (OnDelay key) OnRetry once here there = absurd (let some = delay_share s.delays key in omega (arith, once, here, there, some))
   one_place s (OnDelay key) (OnDelay other) once here there =
       elim (cases_Bool (key_eq key other)) [
         | inl is ↦ ap (λ k. OnDelay k) (key_same key other is)
         | inr apart ↦ absurd (let some = two_shares s.delays key other apart in omega (arith, once, here, there, some))
       ]
-  one_place s (OnDelay key) (OnUserChain other) once here there =
-      absurd (let some = delay_share s.delays key in let more = chain_share s.linked other in omega (arith, once, here, there, some, more))
-  one_place s (OnUserChain key) Active once here there = absurd (let some = chain_share s.linked key in omega (arith, once, here, there, some))
-  one_place s (OnUserChain key) OnCurrent once here there = absurd (let some = chain_share s.linked key in omega (arith, once, here, there, some))
-  one_place s (OnUserChain key) OnFuture once here there = absurd (let some = chain_share s.linked key in omega (arith, once, here, there, some))
-  one_place s (OnUserChain key) OnRetry once here there = absurd (let some = chain_share s.linked key in omega (arith, once, here, there, some))
-  one_place s (OnUserChain key) (OnDelay other) once here there =
-      absurd (let some = chain_share s.linked key in let more = delay_share s.delays other in omega (arith, once, here, there, some, more))
   one_place s (OnUserChain key) (OnUserChain other) once here there =
       elim (cases_Bool (key_eq key other)) [
         | inl is ↦ ap (λ k. OnUserChain k) (key_same key other is)
         | inr apart ↦ absurd (let some = two_chains s.linked key other apart in omega (arith, once, here, there, some))
       ]
+  one_place s p q once here there =
+      absurd (let first = share_in s p in let second = share_in s q in omega (arith, once, here, there, first, second))
 
 pub each_has_one_place : EachHasOnePlace
 each_has_one_place t seed n s well within is p q x y here there same =
@@ -164,15 +145,10 @@ abbrev ChainsAreOnce : Machine → Type 0
 ChainsAreOnce s = AreOnce s.delays × AreOnce (members_of s.linked)
 
 settled_once : (s : Machine) (x : Transaction) (id : ℕ) (change : Change) (fate : Fate) → ChainsAreOnce s → ChainsAreOnce (settled s x id change fate)
-settled_once s x id change fates.Active h = h
-settled_once s x id change fates.Current h = h
-settled_once s x id change (fates.Delayed until) h = h
 settled_once s x id change (fates.Linked key discipline) h = (h.0, chain_once s.linked key _ h.1)
-settled_once s x id change (fates.Destroyed count) h = h
+settled_once s x id change fate h = h
 
 moved_once : (t : Listing) (s : Machine) (m : Move) → IsDecided t s m → ChainsAreOnce s → ChainsAreOnce (moved s m)
-moved_once t s (moves.Start count arrivals) decided h = h
-moved_once t s moves.Command decided h = h
 moved_once t s moves.Reset decided h = (h.0, subst AreOnce (sym (members_anew s.linked)) h.1)
 moved_once t s moves.Clear decided h = (tt, tt)
 moved_once t s (moves.Enter id change fate) decided h =
@@ -189,7 +165,7 @@ moved_once t s (moves.Refuse id key units) decided h =
     with_active_has ChainsAreOnce s.active (λ x. refused s x id key units) s h (λ x is. (with_once s.delays key _ h.0, h.1))
 moved_once t s (moves.Watch read) decided h = with_active_has ChainsAreOnce s.active (λ x. watching s x read) s h (λ x is. h)
 moved_once t s moves.Pick decided h = picked_has ChainsAreOnce s s.current h (λ x xs is. h)
-moved_once t s (moves.Clock time) decided h = h
+moved_once t s m decided h = h
 
 -- whoever waits stands on the delay chain of some key
 who_waits : (ds : List (Key × List Transaction)) (x : Transaction) → AreOnce ds → Contains (waiting ds) x → (key : Key) × Contains (delay_at ds key) x

@@ -13,8 +13,8 @@ use Rattle.gw_frame.proofs.Known.{IsDecided}
 use Rattle.gw_frame.proofs.Moves.{settled, settled_is, with_active_has, entered_has, picked_has}
 use Rattle.gw_frame.proofs.Running.{over_run}
 use Rattle.gw_laws.proofs.Waiting.{let_in_is}
-use Rattle.gw_laws.proofs.Crowd.{crowd, future_push, settled_fewer, refused_crowd, lets_crowd, copied_crowd, unlinked_crowd, picked_crowd, advanced_crowd, watching_crowd, woken_crowd}
-use Rattle.gw_laws.proofs.Anew.{crowd_reset}
+use Rattle.gw_laws.proofs.Crowd.{crowd, future_push, settled_fewer, lets_crowd, copied_crowd, unlinked_crowd, woken_crowd}
+use Rattle.gw_laws.proofs.Anew.{all_stay}
 
 abbrev pub anyone : Transaction → Bool
 anyone x = true
@@ -53,10 +53,6 @@ moved_within t s (moves.Start count arrivals) most room few decided h =
     let first : IsWithin most (with_making (making_of s) (started count s)) = record { next = h.next; crowd = h.crowd } in
     within_more (most + length arrivals) (most + 100000) (moved s (moves.Start count arrivals)) (omega (arith, few, decided.few))
     (all_made_within most arrivals (making_of s) (started count s) (omega (arith, room, few, decided.few)) first)
-moved_within t s moves.Command most room few decided h = record { next = omega (arith, h.next); crowd = omega (arith, h.crowd) }
-moved_within t s moves.Reset most room few decided h =
-    let same = crowd_reset anyone s in
-    record { next = omega (arith, h.next); crowd = omega (arith, same, h.crowd) }
 moved_within t s moves.Clear most room few decided h = record { next = omega arith; crowd = omega arith }
 moved_within t s (moves.Enter id change fate) most room few decided h =
     entered_has (IsWithin most) (IsWithin (most + 100000)) t s id change fate decided.1 (within_more most (most + 100000) s (omega arith) h)
@@ -76,24 +72,9 @@ moved_within t s (moves.Enter id change fate) most room few decided h =
           (let same = unlinked_crowd anyone w key to x xs is refl in
           same_within (most + 100000) w (one_unlinked key to x xs w) refl (omega arith) k);
     })
-moved_within t s (moves.Refuse id key units) most room few decided h =
-    with_active_has (IsWithin (most + 100000)) s.active (λ x. refused s x id key units) s (within_more most (most + 100000) s (omega arith) h)
-    (λ x is.
-    let same = refused_crowd anyone s x id key units is refl in
-    record { next = omega (arith, h.next); crowd = omega (arith, h.crowd) })
-moved_within t s (moves.Watch read) most room few decided h =
-    with_active_has (IsWithin (most + 100000)) s.active (λ x. watching s x read) s (within_more most (most + 100000) s (omega arith) h)
-    (λ x is.
-    let same = watching_crowd anyone s x read is in
-    record { next = omega (arith, h.next); crowd = omega (arith, h.crowd) })
-moved_within t s moves.Pick most room few decided h =
-    picked_has (IsWithin (most + 100000)) s s.current (within_more most (most + 100000) s (omega arith) h)
-    (λ x xs is.
-    let same = picked_crowd anyone s x xs decided is in
-    record { next = omega (arith, h.next); crowd = omega (arith, h.crowd) })
-moved_within t s (moves.Clock time) most room few decided h =
-    let same = advanced_crowd anyone s time in
-    record { next = omega (arith, h.next); crowd = omega (arith, h.crowd) }
+moved_within t s m most room few decided h =
+    let same = all_stay anyone t s m decided tt (λ x id units. refl) in
+    within_more most (most + 100000) (moved s m) (omega arith) (same_within most s (moved s m) same.next (let crowd = same.crowd in omega arith) h)
 
 -- over a run
 pub all_within : (t : Listing) (seed n : ℕ) (s : Machine) → Well t → n ≤ t.limit → run t seed n ≡ Ok s → IsWithin (100000 * n) s
@@ -115,8 +96,6 @@ IsLow s = s.next < 2 ^ 64
 
 moved_low : (t : Listing) (s : Machine) (m : Move) → IsDecided t s m → IsLow s → IsLow (moved s m)
 moved_low t s (moves.Start count arrivals) decided h = all_made_low arrivals (making_of s) h
-moved_low t s moves.Command decided h = h
-moved_low t s moves.Reset decided h = h
 moved_low t s moves.Clear decided h = omega arith
 moved_low t s (moves.Enter id change fate) decided h =
     entered_has IsLow IsLow t s id change fate decided.1 h (λ x is. rw (settled_is s x id change fate).next h)
@@ -130,7 +109,7 @@ moved_low t s (moves.Enter id change fate) decided h =
 moved_low t s (moves.Refuse id key units) decided h = with_active_has IsLow s.active (λ x. refused s x id key units) s h (λ x is. h)
 moved_low t s (moves.Watch read) decided h = with_active_has IsLow s.active (λ x. watching s x read) s h (λ x is. h)
 moved_low t s moves.Pick decided h = picked_has IsLow s s.current h (λ x xs is. h)
-moved_low t s (moves.Clock time) decided h = h
+moved_low t s m decided h = h
 
 pub all_low : (t : Listing) (seed n : ℕ) (s : Machine) → run t seed n ≡ Ok s → s.next < 2 ^ 64
 all_low t seed = over_run t seed (λ n s. IsLow s) (omega arith) (λ n s m streams there decided h. moved_low t s m decided h)

@@ -230,8 +230,6 @@ refused_room t s x id (keys.Named name) units refuses h q =
 
 -- each move
 moved_room : (t : Listing) (s : Machine) (m : Move) → IsDecided t s m → AreCounted s → NobodyHasRoom t s → NobodyHasRoom t (moved s m)
-moved_room t s (moves.Start count arrivals) decided counted h = h
-moved_room t s moves.Command decided counted h = h
 moved_room t s moves.Reset decided counted h =
     λ q. subst (λ content. AllWait t q content (delay_at s.delays (keys.Defined q))) (sym (storage_reset s (keys.Defined q))) (h q)
 moved_room t s moves.Clear decided counted h = λ q. tt
@@ -245,7 +243,7 @@ moved_room t s (moves.Refuse id key units) decided counted h =
 moved_room t s (moves.Watch read) decided counted h =
     with_active_has (NobodyHasRoom t) s.active (λ x. watching s x read) s h (λ x is. h)
 moved_room t s moves.Pick decided counted h = picked_has (NobodyHasRoom t) s s.current h (λ x xs is. h)
-moved_room t s (moves.Clock time) decided counted h = h
+moved_room t s m decided counted h = h
 
 -- over a run
 pub nobody_waits_at_room : NobodyWaitsAtRoom

@@ -22,7 +22,8 @@ use Rattle.gw_model.specs.Well.{Well}
 use Rattle.gw_frame.proofs.Moves.{settled, LetsIn, with_active_has, picked_has}
 use Rattle.gw_laws.specs.Starts.{starts_among, under_way, StartsHaveCounts, StartsAreDoneInOrder, NoMoreStartsThanThereAre}
 use Rattle.gw_laws.proofs.Crowd.{one}
-use Rattle.gw_laws.proofs.Tried.{IsCommand, IsScan, IsNext, no_start, no_command, no_reset, no_clear_scanned, changed_keeps, over_moves}
+use Rattle.gw_laws.proofs.Tried.{changed_keeps, over_moves}
+use Rattle.gw_frame.proofs.Known.{IsStep}
 use Rattle.gw_laws.proofs.Waiting.{leaving}
 
 -- the first so many of a list, and one more
@@ -125,29 +126,12 @@ module _ (t : Listing) (well : Well t) where
       AreDone t (raised s.commands) s.complete 0
   cleared_done s idle is h = subst (AreDone t (raised s.commands) s.complete) idle (other_done s commands.Clear is refl h)
 
-  command_done : (s : Machine) (m : Move) (c : Option Command) → s.remaining ≡ 0 → command_at t (raised s.commands) ≡ c → IsCommand c m → Done s →
-      Done (moved s m)
-  command_done s (moves.Start n arrivals) (Some (commands.Start count)) idle is same h =
-      start_done s n idle (is ∙ ap (λ k. Some (commands.Start k)) (sym same)) h
-  command_done s moves.Command (Some (commands.Rmult values)) idle is next h = other_done s (commands.Rmult values) is refl h
-  command_done s moves.Reset (Some commands.Reset) idle is next h = other_done s commands.Reset is refl h
-  command_done s moves.Clear (Some commands.Clear) idle is next h = cleared_done s idle is h
-  command_done s m None idle is next h = absurd next
-  command_done s m (Some (commands.Start count)) idle is next h = absurd next
-  command_done s m (Some (commands.Rmult values)) idle is next h = absurd next
-  command_done s m (Some commands.Reset) idle is next h = absurd next
-  command_done s m (Some commands.Clear) idle is next h = absurd next
-
   -- one more is complete where nothing remains
   some_under_way : (n : ℕ) → 1 ≤ n → under_way n ≡ 1
   some_under_way zero some = absurd (omega (arith, some))
   some_under_way (suc n) some = refl
 
   fated_done : (fate : Fate) (x : Transaction) (v : Machine) → under_way v.remaining ≡ 1 → Done v → Done (fated fate x v)
-  fated_done fates.Active x v some h = h
-  fated_done fates.Current x v some h = h
-  fated_done (fates.Delayed until) x v some h = h
-  fated_done (fates.Linked key discipline) x v some h = h
   fated_done (fates.Destroyed count) x v some h =
       elim (cases_Bool (nat_lt count v.remaining)) [
         | inl less ↦ rw less (record {
@@ -171,6 +155,7 @@ module _ (t : Listing) (well : Well t) where
           none = h.none;
         })
       ]
+  fated_done fate x v some h = h
 
   lets_done : LetsIn Done
   lets_done w key x passed xs is h = go x.destination where
@@ -185,31 +170,24 @@ module _ (t : Listing) (well : Well t) where
       (record { makes = λ a w k. k; lets = lets_done; copies = λ w to y values k. k; unlinks = λ w key to y ys there k. k })
       (fated_done fate (marked change s.clock (placed x id)) _ some h))
 
-  scan_done : (s : Machine) (m : Move) → under_way s.remaining ≡ 1 → IsScan t s.active m → Done s → Done (moved s m)
-  scan_done s (moves.Start count arrivals) some next h = absurd (no_start t s.active count arrivals next)
-  scan_done s moves.Command some next h = absurd (no_command t s.active next)
-  scan_done s moves.Reset some next h = absurd (no_reset t s.active next)
-  scan_done s moves.Clear some next h = absurd (no_clear_scanned t s.active next)
-  scan_done s (moves.Enter id change fate) some next h = entered_done s id change fate some h
-  scan_done s (moves.Refuse id key units) some next h =
+  moved_done : (seed : ℕ) (s : Machine) (m : Move) → IsStep t seed s m → Done s → Done (moved s m)
+  moved_done seed s (moves.Start count arrivals) step h = start_done s count step.0.idle step.0.next h
+  moved_done seed s moves.Command step h = other_done s (commands.Rmult step.0) step.1.next refl h
+  moved_done seed s moves.Reset step h = other_done s commands.Reset step.next refl h
+  moved_done seed s moves.Clear step h = cleared_done s step.idle step.next h
+  moved_done seed s (moves.Enter id change fate) step h = entered_done s id change fate (some_under_way s.remaining step.0) h
+  moved_done seed s (moves.Refuse id key units) step h =
       with_active_has Done s.active (λ x. refused s x id key units) s h (λ x is. h)
-  scan_done s (moves.Watch read) some next h =
-      with_active_has Done s.active (λ x. watching s x read) s h (λ x is. h)
-  scan_done s moves.Pick some next h = picked_has Done s s.current h (λ x xs is. h)
-  scan_done s (moves.Clock time) some next h = h
-
-  moved_done : (s : Machine) (m : Move) → IsNext t s s.remaining m → Done s → Done (moved s m)
-  moved_done s m next h = go s.remaining refl next where
-    go : (n : ℕ) → s.remaining ≡ n → IsNext t s n m → Done (moved s m)
-    go zero idle is = command_done s m (command_at t (raised s.commands)) idle refl is h
-    go (suc n) busy is = scan_done s m (ap under_way busy) is h
+  moved_done seed s (moves.Watch read) step h = with_active_has Done s.active (λ x. watching s x read) s h (λ x is. h)
+  moved_done seed s moves.Pick step h = picked_has Done s s.current h (λ x xs is. h)
+  moved_done seed s (moves.Clock time) step h = h
 
 -- over a run
 all_done : (t : Listing) (seed : ℕ) (well : Well t) (n : ℕ) (s : Machine) → run t seed n ≡ Ok s → AreDone t s.commands s.complete s.remaining
 all_done t seed well =
     over_moves t seed (λ s. AreDone t s.commands s.complete s.remaining)
     (record { few = omega arith; skipped = 0; sum = refl; none = λ all. refl })
-    (λ s m streams next h. moved_done t well s m next h)
+    (λ s m streams step h. moved_done t well seed s m step h)
 
 pub starts_are_done_in_order : StartsAreDoneInOrder
 starts_are_done_in_order t seed n s well counts is =

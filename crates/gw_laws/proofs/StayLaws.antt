@@ -201,7 +201,7 @@ module _ (priority : ℤ) where
 
 pub who_waits_keeps_his_place : WhoWaitsKeepsHisPlace
 who_waits_keeps_his_place t seed n s v well within there is key priority =
-    let after = ((step_decides t seed s).runs v (sym (run_on t seed n s there) ∙ is)).0 in
+    let after = (step_decides t seed s v (sym (run_on t seed n s there) ∙ is)).0 in
     let chained = all_chained t seed n s there in
     subst (KeepsPlaces priority key s) (sym after.is)
     (moved_places priority key t s after.move after.is_decided (all_numbered t seed well n s there within) (λ other. delay_ordered s other chained))
@@ -269,9 +269,6 @@ module _ (q : Key) (x : Transaction) (way : IsBound x) where
 
   moved_stay : (t : Listing) (s : Machine) (m : Move) → IsDecided t s m → (Clears m → ⊥) → Contains (delay_at s.delays q) x →
       WaitsOrIsIn (moved s m)
-  moved_stay t s (moves.Start count arrivals) decided apart there = inl there
-  moved_stay t s moves.Command decided apart there = inl there
-  moved_stay t s moves.Reset decided apart there = inl there
   moved_stay t s moves.Clear decided apart there = absurd (apart tt)
   moved_stay t s (moves.Enter id change fate) decided apart there =
       entered_has WaitsOrIsIn WaitsOrIsIn t s id change fate decided.1 (inl there)
@@ -288,7 +285,7 @@ module _ (q : Key) (x : Transaction) (way : IsBound x) where
   moved_stay t s (moves.Watch read) decided apart there =
       with_active_has WaitsOrIsIn s.active (λ y. watching s y read) s (inl there) (λ y is. inl there)
   moved_stay t s moves.Pick decided apart there = picked_has WaitsOrIsIn s s.current (inl there) (λ y ys is. inl there)
-  moved_stay t s (moves.Clock time) decided apart there = inl there
+  moved_stay t s m decided apart there = inl there
 
   woken_stay : (list : List Watched) (w : Machine) → WaitsOrIsIn w → WaitsOrIsIn (woken list w)
   woken_stay list w (inl there) = inl there
@@ -297,7 +294,7 @@ module _ (q : Key) (x : Transaction) (way : IsBound x) where
 
 pub who_leaves_is_let_in : WhoLeavesIsLetIn
 who_leaves_is_let_in t seed n s v there is none key x waits =
-    let after = ((step_decides t seed s).runs v (sym (run_on t seed n s there) ∙ is)).0 in
+    let after = (step_decides t seed s v (sym (run_on t seed n s there) ∙ is)).0 in
     let way : IsBound x =
     All-contains IsBound (delay_at s.delays key) x
     (All-from_recursion IsBound (delay_at s.delays key) (delay_bound s key (all_bound t seed n s there))) waits in

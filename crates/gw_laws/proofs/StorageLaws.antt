@@ -1,5 +1,5 @@
 -- The storages, move by move and over a run: each is within its capacity.
-use Rattle.std.proofs.Common.{◌≡◌, ℕ, ◌+◌, ◌-◌, ◌≤◌, ◌<◌, ◌^◌, nat_le, Bool, true, false, cond, List, [], ◌∷◌, ◌++◌, Option, Some, Ok, unwrap_or, refl, sym, subst, ◌∙◌, arith}
+use Rattle.std.proofs.Common.{◌≡◌, ℕ, ◌+◌, ◌-◌, ◌≤◌, ◌<◌, ◌^◌, nat_le, Bool, true, false, cond, List, [], ◌∷◌, Option, Some, Ok, unwrap_or, refl, sym, subst, ◌∙◌, arith}
 use Rattle.std.specs.List.{AllByRecursion}
 use Rattle.std.proofs.lemmas.Bool.Decides.{nat_tests}
 use Rattle.std.proofs.lemmas.List.Elements.{All-from_recursion}
@@ -14,22 +14,13 @@ use Rattle.gw_meaning.specs.declared.transaction.Transaction.{Transaction}
 use Rattle.gw_meaning.specs.declared.entity_change.Deed.{Deed}
 use Rattle.gw_meaning.specs.declared.entity_change.Deed.TheVariants as deeds
 use Rattle.gw_meaning.specs.declared.entity_change.StorageDeed.TheVariants as of_storage
-use Rattle.gw_meaning.specs.declared.moves.Change.{Change}
-use Rattle.gw_meaning.specs.declared.moves.Change.TheVariants as changes
-use Rattle.gw_meaning.specs.declared.moves.Move.{Move}
-use Rattle.gw_meaning.specs.declared.moves.Move.TheVariants as moves
 use Rattle.gw_meaning.specs.Listing.{Listing, capacity_at}
-use Rattle.gw_meaning.specs.Entities.{store_at, all_entered, done, touched}
+use Rattle.gw_meaning.specs.Entities.{store_at, all_entered, done}
 use Rattle.gw_meaning.specs.Machine.{Machine, delay_at}
-use Rattle.gw_meaning.specs.Changes.{refused, moved, watching}
 use Rattle.gw_meaning.specs.Step.{beside, in_use, share_of, all_shares, run}
-use Rattle.gw_frame.proofs.Known.{does_fit, shares_of, ComesIn, GoesOut, IsDecidedDeed, IsDecidedChange, IsDecided}
-use Rattle.gw_frame.proofs.Moves.{settled_is, with_active_has, entered_has, picked_has}
-use Rattle.gw_frame.proofs.Running.{over_run}
+use Rattle.gw_frame.proofs.Known.{does_fit, shares_of, ComesIn, GoesOut, IsDecidedDeed}
 use Rattle.gw_laws.specs.Storages.{IsWithin, IsStored, StoragesAreWithin}
-use Rattle.gw_laws.proofs.Waiting.{let_in_is}
-use Rattle.gw_laws.proofs.ClockLaws.{IsInTime, moved_goes_on, moved_in_time}
-use Rattle.gw_laws.specs.Anew.{Clears}
+use Rattle.gw_laws.proofs.EntityLaws.{KeepsEntities, over_entities}
 use Rattle.gw_meaning.specs.Entities.{all_anew}
 use Rattle.gw_entities.specs.Records.{storage_anew}
 
@@ -175,15 +166,6 @@ done_kept t s key (deeds.Storage (of_storage.Leave units shares)) number decided
     (leave_kept t s decided.name units shares number (goes_out t s key units shares decided) all)
 done_kept t s key deed number decided all = all
 
-touched_kept : (t : Listing) (s : Machine) (change : Change) (number : ℕ) → IsDecidedChange t s change → AreKept t s.clock s.entities.storages →
-    AreKept t s.clock (touched change s.clock number s.entities).storages
-touched_kept t s (changes.Entity change) number decided all = done_kept t s change.0 change.1 number decided all
-touched_kept t s (changes.Generate next) number decided all = all
-touched_kept t s (changes.Transaction change) number decided all = all
-touched_kept t s (changes.Split count to) number decided all = all
-touched_kept t s (changes.Unlink key count to) number decided all = all
-touched_kept t s changes.Nothing number decided all = all
-
 -- a later clock
 later_kept : (t : Listing) (clock later : ℕ) (es : List (Key × Store)) → clock ≤ later → AreKept t clock es → AreKept t later es
 later_kept t clock later [] on all = tt
@@ -221,41 +203,18 @@ anew_kept t clock (e ∷ es) all =
     } in
     ((all.0.0, all.0.1, now), anew_kept t clock es all.1)
 
--- each move
-abbrev Kept : Listing → Machine → Type 0
-Kept t s = AreKept t s.clock s.entities.storages
-
-moved_kept : (t : Listing) (s : Machine) (m : Move) → IsDecided t s m → ((Clears m → ⊥) → s.clock ≤ (moved s m).clock) → Kept t s →
-    Kept t (moved s m)
-moved_kept t s (moves.Start count arrivals) decided on all = all
-moved_kept t s moves.Command decided on all = all
-moved_kept t s moves.Reset decided on all = anew_kept t s.clock s.entities.storages all
-moved_kept t s moves.Clear decided on all = tt
-moved_kept t s (moves.Enter id change fate) decided on all =
-    entered_has (Kept t) (Kept t) t s id change fate decided.1 all
-    (λ x is. (let same = settled_is s x id change fate in rw (same.clock, same.entities) (touched_kept t s change x.number decided.1 all)))
-    (λ v. record {
-      nothing = λ k. k;
-      one = λ a coming k. k;
-      lets = λ w key x passed xs is k. (let same = let_in_is key x (passed ++ xs) w in rw (same.clock, same.entities) k);
-      copies = λ w to x values copying k. k;
-      unlinks = λ w key to x xs named is k. k;
-    })
-moved_kept t s (moves.Refuse id key units) decided on all =
-    with_active_has (Kept t) s.active (λ x. refused s x id key units) s all (λ x is. all)
-moved_kept t s (moves.Watch read) decided on all =
-    with_active_has (Kept t) s.active (λ x. watching s x read) s all (λ x is. all)
-moved_kept t s moves.Pick decided on all = picked_has (Kept t) s s.current all (λ x xs is. all)
-moved_kept t s (moves.Clock time) decided on all = later_kept t s.clock time s.entities.storages (on (λ c. c)) all
-
 -- over a run
-pub all_kept : (t : Listing) (seed n : ℕ) (s : Machine) → run t seed n ≡ Ok s → Kept t s
-all_kept t seed n s is =
-    (over_run t seed (λ n v. IsInTime t v × Kept t v) ((omega arith, tt), tt)
-    (λ n v m streams there decided h. (
-      moved_in_time t v m decided h.0,
-      moved_kept t v m decided (λ apart. (moved_goes_on t v m decided apart h.0).0) h.1,
-    )) n s is).1
+keeps_storages : (t : Listing) → KeepsEntities t (λ n clock e. AreKept t clock e.storages)
+keeps_storages t = record {
+  none = λ n. tt;
+  further = λ n clock e all. all;
+  does = λ n s key deed number decided all. done_kept t s key deed number decided all;
+  goes_on = λ n before now e on all. later_kept t before now e.storages on all;
+  anew = λ n clock e all. anew_kept t clock e.storages all;
+}
+
+pub all_kept : (t : Listing) (seed n : ℕ) (s : Machine) → run t seed n ≡ Ok s → AreKept t s.clock s.entities.storages
+all_kept t seed n s is = over_entities t (λ n clock e. AreKept t clock e.storages) (keeps_storages t) seed n s is
 
 each_stored : (t : Listing) (clock : ℕ) (es : List (Key × Store)) → AreKept t clock es → AllByRecursion (IsStored t clock) es
 each_stored t clock [] all = tt

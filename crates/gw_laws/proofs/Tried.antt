@@ -1,8 +1,6 @@
--- Which move a step is: where no START is under way the next command's, and else one of the scan, in which the active
--- transaction tries the block to which it goes.
-use Rattle.std.proofs.Common.{◌≡◌, ℕ, ℤ, zero, suc, Bool, true, false, List, [], ◌∷◌, Option, Some, None, Result, Ok, Err, refl, sym, subst, ◌∙◌}
+-- What an evaluation comes to, whatever it asks; what a block's change brings; and what each step of a run keeps.
+use Rattle.std.proofs.Common.{◌≡◌, ℕ, ℤ, List, [], ◌∷◌, Option, Some, None, Result, Ok, Err, refl, sym, subst, ◌∙◌, arith}
 use Rattle.gw_streams.specs.declared.stream.Stream.{Stream}
-use Rattle.gw_streams.specs.Draws.{all_set}
 use Rattle.gw_names.specs.declared.key.Key.{Key}
 use Rattle.gw_entities.specs.Parameters.{values_at}
 use Rattle.gw_meaning.specs.declared.entity_change.Deed.{Deed}
@@ -10,26 +8,20 @@ use Rattle.gw_meaning.specs.declared.moves.Arrival.{Arrival}
 use Rattle.gw_meaning.specs.declared.moves.Change.{Change}
 use Rattle.gw_meaning.specs.declared.moves.Change.TheVariants as changes
 use Rattle.gw_meaning.specs.declared.moves.Move.{Move}
-use Rattle.gw_meaning.specs.declared.moves.Move.TheVariants as moves
 use Rattle.gw_meaning.specs.declared.item.Item.{Item}
-use Rattle.gw_meaning.specs.declared.item.Item.TheVariants as items
 use Rattle.gw_expr.specs.declared.halt.End.{End}
-use Rattle.gw_meaning.specs.declared.statement.Block.{Block}
-use Rattle.gw_meaning.specs.declared.statement.Command.{Command}
-use Rattle.gw_meaning.specs.declared.statement.Command.TheVariants as commands
 use Rattle.gw_meaning.specs.declared.transaction.Transaction.{Transaction}
-use Rattle.gw_meaning.specs.Listing.{Listing, block_at, after_at, command_at, or_next}
-use Rattle.gw_meaning.specs.Machine.{Machine, raised, delay_at, user_chain_at, zero_state}
+use Rattle.gw_meaning.specs.Listing.{Listing}
+use Rattle.gw_meaning.specs.Machine.{Machine, delay_at, user_chain_at, zero_state}
 use Rattle.gw_meaning.specs.Changes.{deed_shares, making_of, with_making, made, admitted, one_copied, all_copied, one_unlinked, with_active, changed, decided}
-use Rattle.gw_meaning.specs.Questions.{Answer, ask, Gives, result_of}
+use Rattle.gw_meaning.specs.Questions.{Answer, ask, result_of}
 use Rattle.gw_meaning.specs.Evaluation.{Eval, gives, ends_with, asks, ◌~>◌}
-use Rattle.gw_meaning.specs.Step.{first_arrivals_prog, start_prog, command_prog, meet_prog, try_prog, attempt_prog, within_prog, clock_prog, pick_prog, scan_prog, move_prog, least_time, decide, step, run}
+use Rattle.gw_meaning.specs.Step.{run}
 use Rattle.gw_meaning.proofs.Programs.{bind_gives, bind_ends}
 use Rattle.gw_frame.proofs.Moves.{LetsIn, some_have, all_copied_keep, some_unlinked_keep}
-use Rattle.gw_frame.proofs.Running.{last_step}
-use Rattle.gw_laws.specs.Destinations.{goes_to}
-use Rattle.gw_laws.proofs.Trying.{gives_so}
-use Rattle.gw_laws.proofs.Attempts.{IsAt, meet_tries}
+use Rattle.gw_frame.proofs.Running.{over_steps}
+use Rattle.gw_frame.proofs.Decided.{move_is_step}
+use Rattle.gw_frame.proofs.Known.{IsStep}
 
 -- what an evaluation comes to, from any streams, has the property Q
 pub record Comes {A : Type 0} (t : Listing) (seed : ℕ) (Q : A → Type 0) (p : Eval A) : Type 0 where
@@ -72,115 +64,6 @@ comes_more more h = record { from = λ streams r is. more r.0 (h.from streams r 
 pub comes_any : {A : Type 0} {t : Listing} {seed : ℕ} {Q : A → Type 0} {p : Eval A} → ((a : A) → Q a) → Comes t seed Q p
 comes_any each = record { from = λ streams r is. each r.0 }
 
--- one is picked, or the clock moves on
-abbrev pub IsOfNobody : Move → Type 0
-IsOfNobody moves.Pick = Unit {0}
-IsOfNobody (moves.Clock time) = Unit {0}
-IsOfNobody m = ⊥
-
--- the move of a command
-abbrev pub IsCommand : Option Command → Move → Type 0
-IsCommand (Some (commands.Start count)) (moves.Start n arrivals) = n ≡ count
-IsCommand (Some (commands.Rmult values)) moves.Command = Unit {0}
-IsCommand (Some commands.Reset) moves.Reset = Unit {0}
-IsCommand (Some commands.Clear) moves.Clear = Unit {0}
-IsCommand command m = ⊥
-
-abbrev pub IsScan : Listing → Option Transaction → Move → Type 0
-IsScan t None m = IsOfNobody m
-IsScan t (Some x) m = (id : ℕ) × (goes_to t x ≡ Some id) × IsAt id m
-
-pub no_start : (t : Listing) (o : Option Transaction) (count : ℕ) (arrivals : List Arrival) → IsScan t o (moves.Start count arrivals) → ⊥
-no_start t None count arrivals next = next
-no_start t (Some x) count arrivals next = next.2
-
-pub no_command : (t : Listing) (o : Option Transaction) → IsScan t o moves.Command → ⊥
-no_command t None next = next
-no_command t (Some x) next = next.2
-
-pub no_reset : (t : Listing) (o : Option Transaction) → IsScan t o moves.Reset → ⊥
-no_reset t None next = next
-no_reset t (Some x) next = next.2
-
-pub no_clear_scanned : (t : Listing) (o : Option Transaction) → IsScan t o moves.Clear → ⊥
-no_clear_scanned t None next = next
-no_clear_scanned t (Some x) next = next.2
-
--- by what remains of the count of a START
-abbrev pub IsNext : Listing → Machine → ℕ → Move → Type 0
-IsNext t s zero m = IsCommand (command_at t (raised s.commands)) m
-IsNext t s (suc n) m = IsScan t s.active m
-
-module _ (t : Listing) (seed : ℕ) (s : Machine) where
-  meet_at : (id : ℕ) (x : Transaction) (block : Option Block) → Comes t seed (IsAt id) (meet_prog s x id block)
-  meet_at id x block = record {
-    from = λ streams r is. gives_so t seed (λ (d : Move × List Stream). IsAt id d.0) (meet_prog s x id block streams) r
-        ((meet_tries s x id block).from streams) is;
-  }
-
-  try_at : (x : Transaction) (to : Option ℕ) → Comes t seed (λ m. (id : ℕ) × (to ≡ Some id) × IsAt id m) (try_prog s x to)
-  try_at x None = comes_ends
-  try_at x (Some id) =
-      comes_asks (items.Block id) (record { from = λ streams r is. (id, refl, (meet_at id x (block_at t id)).from streams r is) })
-
-  attempt_at : (x : Transaction) (destination : Option ℕ) →
-      Comes t seed (λ m. (id : ℕ) × (or_next destination (after_at t x.current) ≡ Some id) × IsAt id m) (attempt_prog s x destination)
-  attempt_at x None = comes_asks (items.After x.current) (try_at x (after_at t x.current))
-  attempt_at x (Some id) = try_at x (Some id)
-
-  -- the scan
-  within_next : (time : ℕ) (within : Bool) → Comes t seed IsOfNobody (within_prog time within)
-  within_next time true = comes_gives tt
-  within_next time false = comes_ends
-
-  clock_next : (time : Option ℕ) → Comes t seed IsOfNobody (clock_prog time)
-  clock_next None = comes_ends
-  clock_next (Some time) = comes_asks (items.Within time) (within_next time _)
-
-  pub pick_next : (chain : List Transaction) → Comes t seed IsOfNobody (pick_prog s chain)
-  pick_next [] = clock_next (least_time s.future)
-  pick_next (x ∷ xs) = comes_gives tt
-
-  scan_next : (active : Option Transaction) → Comes t seed (IsScan t active) (scan_prog s active)
-  scan_next None = pick_next s.current
-  scan_next (Some x) = attempt_at x x.destination
-
-  -- commands
-  start_next : (primed : Bool) (count : ℕ) → Comes t seed (IsCommand (Some (commands.Start count))) (start_prog s primed count)
-  start_next true count = comes_gives refl
-  start_next false count = comes_bind (first_arrivals_prog s count) (λ first. comes_gives refl)
-
-  pub command_next : (command : Option Command) → Comes t seed (IsCommand command) (command_prog s command)
-  command_next None = comes_ends
-  command_next (Some (commands.Start count)) = start_next s.primed count
-  command_next (Some (commands.Rmult values)) =
-      record {
-        from = λ streams r is. (let same : (moves.Command, all_set streams values) ≡ r = cc in
-            subst (λ (d : Move × List Stream). IsCommand (Some (commands.Rmult values)) d.0) same tt);
-      }
-  command_next (Some commands.Reset) = comes_gives tt
-  command_next (Some commands.Clear) = comes_gives tt
-
-  move_next : (remaining : ℕ) → Comes t seed (IsNext t s remaining) (move_prog s remaining)
-  move_next zero = comes_asks (items.Cmd (raised s.commands)) (command_next (command_at t (raised s.commands)))
-  move_next (suc n) = scan_next s.active
-
-  -- the step
-  pub record IsBehind (v : Machine) : Type 0 where
-    pub move : Move
-    pub streams : List Stream
-    pub is_next : IsNext t s s.remaining move
-    pub is : v ≡ decided s move streams
-
-  pub step_is_next : (v : Machine) → step t seed s ≡ Ok v → IsBehind v
-  step_is_next v is = go (result_of t seed (decide s)) refl where
-    go : (r : Result (Move × List Stream) End) → result_of t seed (decide s) ≡ r → IsBehind v
-    go (Ok d) there =
-        let same : Ok (decided s d.0 d.1) ≡ Ok v = sym (bind_gives t seed (decide s) (λ e. Gives (decided s e.0 e.1)) d there).0 ∙ is in
-        record { move = d.0; streams = d.1; is_next = (move_next s.remaining).from s.streams d there; is = cc }
-    go (Err end) there =
-        absurd (let whole : Err end ≡ Ok v = sym (bind_ends t seed (decide s) (λ e. Gives (decided s e.0 e.1)) end there).0 ∙ is in cc)
-
 -- one more transaction
 abbrev pub Makes : (Machine → Type 0) → Type 0
 Makes Q = (a : Arrival) (w : Machine) → Q w → Q (with_making (made a (making_of w)) w)
@@ -197,7 +80,6 @@ admitted_keeps : (Q : Machine → Type 0) (key : Key) (deed : Deed) (v : Machine
 admitted_keeps Q key deed v lets h = some_have Q key (deed_shares deed) [] (delay_at v.delays key) v refl lets h
 
 pub changed_keeps : (Q : Machine → Type 0) (change : Change) (v : Machine) → AllKeep Q → Q v → Q (changed change v)
-changed_keeps Q (changes.Generate None) v keep h = h
 changed_keeps Q (changes.Generate (Some a)) v keep h = keep.makes a v h
 changed_keeps Q (changes.Split count to) v keep h = go v.active where
   go : (o : Option Transaction) → Q (with_active o (λ x. all_copied count to x (values_at v.parameters x.number) v) v)
@@ -207,15 +89,12 @@ changed_keeps Q (changes.Split count to) v keep h = go v.active where
 changed_keeps Q (changes.Unlink key count to) v keep h =
     some_unlinked_keep Q key to (λ w x xs is k. keep.unlinks w key to x xs is k) count (user_chain_at v.linked key).members v refl h
 changed_keeps Q (changes.Entity change) v keep h = admitted_keeps Q change.0 change.1 v keep.lets h
-changed_keeps Q (changes.Transaction change) v keep h = h
-changed_keeps Q changes.Nothing v keep h = h
+changed_keeps Q change v keep h = h
 
--- what the start has and each next move keeps, each run from zero has
+-- what the start has and each step keeps, each run from zero has
 pub over_moves : (t : Listing) (seed : ℕ) (P : Machine → Type 0) → P zero_state →
-    ((s : Machine) (m : Move) (streams : List Stream) → IsNext t s s.remaining m → P s → P (decided s m streams)) →
+    ((s : Machine) (m : Move) (streams : List Stream) → IsStep t seed s m → P s → P (decided s m streams)) →
     (n : ℕ) (s : Machine) → run t seed n ≡ Ok s → P s
-over_moves t seed P start keeps zero s is = let same : zero_state ≡ s = cc in subst P same start
-over_moves t seed P start keeps (suc n) v is =
-    let last = last_step t seed n v is in
-    let behind = step_is_next t seed last.before v last.goes in
-    subst P (sym behind.is) (keeps last.before behind.move behind.streams behind.is_next (over_moves t seed P start keeps n last.before last.there))
+over_moves t seed P start keeps n s is =
+    over_steps t seed (λ n v. P v) 0 zero_state refl start
+    (λ n u m streams from there goes h. keeps u m streams (move_is_step t seed u u.streams (m, streams) goes) h) n s (omega arith) is

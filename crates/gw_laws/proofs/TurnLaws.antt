@@ -60,7 +60,7 @@ decided_first t s (moves.Clock time) x decided none = none_is x s (woken [] (mov
 
 pub first_becomes_active : FirstBecomesActive
 first_becomes_active t seed n s v x there is none =
-    let after = ((step_decides t seed s).runs v (sym (run_on t seed n s there) ∙ is)).0 in
+    let after = (step_decides t seed s v (sym (run_on t seed n s there) ∙ is)).0 in
     subst (WasFirst x s) (sym after.is) (decided_first t s after.move x after.is_decided none)
 
 -- ---- who comes
@@ -128,5 +128,5 @@ decided_come t s (moves.Clock time) decided order = unwoken (Come s) (moved s (m
 
 pub all_of_a_time_come : AllOfATimeCome
 all_of_a_time_come t seed n s v there is =
-    let after = ((step_decides t seed s).runs v (sym (run_on t seed n s there) ∙ is)).0 in
+    let after = (step_decides t seed s v (sym (run_on t seed n s there) ∙ is)).0 in
     subst (Come s) (sym after.is) (decided_come t s after.move after.is_decided (all_ordered t seed n s there))

@@ -1,5 +1,5 @@
 -- The user chains, move by move: whoever comes is linked, and whoever goes is unlinked, from the front.
-use Rattle.std.proofs.Common.{◌≡◌, ◌⊎◌, ℕ, suc, List, [], ◌∷◌, ◌++◌, ◌+◌, filter, length, Option, Some, None, Ok, refl, sym, ap, subst, ◌∙◌, append-nil, arith, inl, inr}
+use Rattle.std.proofs.Common.{◌≡◌, ◌⊎◌, ℕ, suc, List, [], ◌∷◌, ◌++◌, ◌+◌, filter, length, Option, Some, Ok, refl, sym, ap, subst, ◌∙◌, append-nil, arith, inl, inr}
 use Rattle.std.specs.Prelude.{Contains, drop, take}
 use Rattle.std.proofs.lemmas.Bool.{cases_Bool}
 use Rattle.std.proofs.lemmas.List.{take-append-drop, length-append}
@@ -27,17 +27,16 @@ use Rattle.gw_meaning.specs.Watching.{transactions_of}
 use Rattle.gw_meaning.specs.Machine.{Machine, UserChain, user_chain_at}
 use Rattle.gw_meaning.specs.Questions.{result_of}
 use Rattle.gw_meaning.specs.Changes.{joined, linked_to, sent, placed, entering, refused, watching, with_active, moved, written, is_woken, decided}
-use Rattle.gw_meaning.specs.Step.{meet_prog, decide, step}
+use Rattle.gw_meaning.specs.Step.{decide, step}
 use Rattle.gw_frame.proofs.Decided.{is_decided}
 use Rattle.gw_frame.proofs.Known.{IsDecidedFate, IsDecided}
 use Rattle.gw_frame.proofs.Moves.{settled, with_active_has, picked_has, split_is}
 use Rattle.gw_laws.specs.UserChains.{chain_of, on_chain, IsLink, IsPlacedBy, TookFromTheFront, OneCame, CountedAnew, Emptied, UserChainsChangeByLinkAndUnlink, FewerByUnlinkAlone, WhoLeavesIsUnlinked, EachLinkIsFifo, UserChainsAreFirstInFirstOut}
 use Rattle.gw_frame.proofs.UserChains.{chain_set}
-use Rattle.gw_laws.proofs.Attempts.{IsAtOr, WaitsAtBlock, LinksAtVerb, LinksAtBlock, meet_waits}
+use Rattle.gw_frame.proofs.Known.{LinksAtVerb, IsStep}
 use Rattle.gw_laws.proofs.EndLaws.{went_on, goes_on}
-use Rattle.gw_laws.proofs.GateLaws.{IsTriedAt, IsNoAttempt, tried_at}
 use Rattle.gw_laws.proofs.Linking.{chain_there, admitted_chain, unlinked_there, unlinked_here, unlinked_entries, unlinked_stands}
-use Rattle.gw_laws.proofs.Trying.{gives_so}
+use Rattle.gw_frame.proofs.Decided.{move_is_step}
 use Rattle.gw_laws.proofs.Waking.{all_lined_keeps}
 use Rattle.gw_laws.proofs.Anew.{all_dropped, chain_members, chain_entries}
 
@@ -57,9 +56,6 @@ module _ (s : Machine) (key : Key) where
 
   -- an entry that leaves the transaction active
   stays_served : (x : Transaction) (id : ℕ) (change : Change) → IsServed (moves.Enter id change fates.Active) (entering s x id change fates.Active)
-  stays_served x id (changes.Generate next) = inl refl
-  stays_served x id (changes.Transaction change) = inl refl
-  stays_served x id changes.Nothing = inl refl
   stays_served x id (changes.Entity change) =
       inl (admitted_chain change.0 change.1 (settled s x id (changes.Entity change) fates.Active) key)
   stays_served x id (changes.Split count to) =
@@ -79,6 +75,7 @@ module _ (s : Machine) (key : Key) where
         | inl is ↦ inr (inl (subst (λ k. TookFromTheFront m k (chain_of s k) (chain_of w k)) (sym (key_same key chain is)) took))
         | inr other ↦ inl (unlinked_there count chain to v key other)
       ]
+  stays_served x id change = inl refl
 
   -- an entry that links it
   link_served : (x : Transaction) (id : ℕ) (chain : Key) (discipline : Discipline) → s.active ≡ Some x →
@@ -116,8 +113,6 @@ module _ (s : Machine) (key : Key) where
       subst (λ c. IsServed (moves.Enter id c (fates.Destroyed count)) (entering s x id c (fates.Destroyed count))) (sym nothing) (inl refl)
 
   moved_served : (t : Listing) (m : Move) → IsDecided t s m → IsServed m (moved s m)
-  moved_served t (moves.Start count arrivals) decided' = inl refl
-  moved_served t moves.Command decided' = inl refl
   moved_served t moves.Reset decided' =
       inr (inr (inr (inl (record { resets = tt; members = chain_members s key; entries = chain_entries s key }))))
   moved_served t moves.Clear decided' = inr (inr (inr (inr (record { clears = tt; empty = refl }))))
@@ -129,7 +124,7 @@ module _ (s : Machine) (key : Key) where
   moved_served t (moves.Watch read) decided' =
       with_active_has (IsServed (moves.Watch read)) s.active (λ x. watching s x read) s (inl refl) (λ x is. inl refl)
   moved_served t moves.Pick decided' = picked_has (IsServed moves.Pick) s s.current (inl refl) (λ x xs is. inl refl)
-  moved_served t (moves.Clock time) decided' = inl refl
+  moved_served t m decided' = inl refl
 
 pub same_behind : (t : Listing) (seed : ℕ) (s v : Machine) (m : Move) (streams : List Stream) → result_of t seed (decide s) ≡ Ok (m, streams) →
     step t seed s ≡ Ok v → decided s m streams ≡ v
@@ -174,10 +169,7 @@ taken_stands s id count key to x y active there =
 pub who_is_active : (t : Listing) (seed : ℕ) (s : Machine) (m : Move) (streams : List Stream) (id : ℕ) (change : Change) (fate : Fate) →
     result_of t seed (decide s) ≡ Ok (m, streams) → m ≡ moves.Enter id change fate → (y : Transaction) × (s.active ≡ Some y)
 who_is_active t seed s m streams id change fate goes is =
-    elim (tried_at t seed s (m, streams) goes) [
-      | inl tried ↦ (tried.x, tried.active)
-      | inr none ↦ absurd (let no : IsNoAttempt (moves.Enter id change fate) = subst (λ n. IsNoAttempt n) is none in no)
-    ]
+    let step = subst (IsStep t seed s) is (move_is_step t seed s s.streams (m, streams) goes) in (step.1.who, step.1.active)
 
 pub who_leaves_is_unlinked : WhoLeavesIsUnlinked
 who_leaves_is_unlinked t seed s v m streams goes is apart key x there =
@@ -215,27 +207,10 @@ linked_by : (t : Listing) (seed : ℕ) (s : Machine) (m : Move) (streams : List 
     result_of t seed (decide s) ≡ Ok (m, streams) → IsLink key discipline m →
     (id : ℕ) × (b : Block) × (block_at t id ≡ Some b) × (b.verb ≡ blocks.Link) × (operand b B ≡ Some (Order discipline))
 linked_by t seed s m streams key discipline goes link =
-    elim (tried_at t seed s (m, streams) goes) [
-      | inl tried ↦ at_block tried (block_at t tried.id) refl (links tried)
-      | inr none ↦ absurd (
-          let no : IsNoAttempt (moves.Enter link.0 changes.Nothing (fates.Linked key discipline)) = subst (λ n. IsNoAttempt n) link.1 none in
-          no)
-    ]
-  where
-    links : (tried : IsTriedAt t seed s m) → LinksAtBlock (block_at t tried.id) discipline
-    links tried =
-        let blk = block_at t tried.id in
-        let at' : IsAtOr (WaitsAtBlock blk) (LinksAtBlock blk) tried.id m =
-        gives_so t seed (λ (d : Move × List Stream). IsAtOr (WaitsAtBlock blk) (LinksAtBlock blk) tried.id d.0)
-        (meet_prog s tried.x tried.id blk tried.before) (m, tried.after) ((meet_waits s tried.x tried.id blk).from tried.before) tried.tries in
-        let there : IsAtOr (WaitsAtBlock blk) (LinksAtBlock blk) tried.id (moves.Enter link.0 changes.Nothing (fates.Linked key discipline)) =
-        subst (IsAtOr (WaitsAtBlock blk) (LinksAtBlock blk) tried.id) link.1 at' in
-        there.1
-
-    at_block : (tried : IsTriedAt t seed s m) (o : Option Block) → block_at t tried.id ≡ o → LinksAtBlock o discipline →
-        (id : ℕ) × (b : Block) × (block_at t id ≡ Some b) × (b.verb ≡ blocks.Link) × (operand b B ≡ Some (Order discipline))
-    at_block tried None is links' = absurd links'
-    at_block tried (Some b) is links' = let both = of_link b b.verb discipline refl links' in (tried.id, b, is, both.0, both.1)
+    let step = subst (IsStep t seed s) link.1 (move_is_step t seed s s.streams (m, streams) goes) in
+    let a = step.1 in
+    let both = of_link a.block a.block.verb discipline refl a.tried.1 in
+    (a.id, a.block, a.there, both.0, both.1)
 
 is_fifo : (t : Listing) → EachLinkIsFifo t → (discipline : Discipline) (id : ℕ) (b : Block) → block_at t id ≡ Some b → b.verb ≡ blocks.Link →
     operand b B ≡ Some (Order discipline) → discipline ≡ disciplines.Fifo

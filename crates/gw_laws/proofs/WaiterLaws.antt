@@ -196,9 +196,6 @@ entering_retry s x id change fate =
 
 -- behind those who were there
 pub retry_behind : (s : Machine) (m : Move) → (Clears m → ⊥) → (moved s m).retry ≡ s.retry ++ who_comes m s.active
-retry_behind s (moves.Start count arrivals) apart = sym (append-nil s.retry)
-retry_behind s moves.Command apart = sym (append-nil s.retry)
-retry_behind s moves.Reset apart = sym (append-nil s.retry)
 retry_behind s moves.Clear apart = absurd (apart tt)
 retry_behind s (moves.Enter id change fate) apart =
     with_active_has (λ v. v.retry ≡ s.retry) s.active (λ x. entering s x id change fate) s refl (λ x is. entering_retry s x id change fate)
@@ -211,7 +208,7 @@ retry_behind s (moves.Watch read) apart = go s.active where
   go (Some x) = refl
 retry_behind s moves.Pick apart =
     picked_has (λ v. v.retry ≡ s.retry) s s.current refl (λ x xs is. refl) ∙ sym (append-nil s.retry)
-retry_behind s (moves.Clock time) apart = sym (append-nil s.retry)
+retry_behind s m apart = sym (append-nil s.retry)
 
 pub who_comes_is : (m : Move) (o : Option Transaction) → IsAtMostTheActive o (who_comes m o)
 who_comes_is (moves.Watch read) (Some x) = inr (record { transaction = x; read = read }, refl, refl)
@@ -300,7 +297,7 @@ was_woken s m streams w apart there gone = elim (cases_Bool (is_woken (written s
 
 pub woken_in_order : WokenInOrder
 woken_in_order t seed n s v there is none w u front equal gone other =
-    let after = ((step_decides t seed s).runs v (sym (run_on t seed n s there) ∙ is)).0 in
+    let after = (step_decides t seed s v (sym (run_on t seed n s there) ∙ is)).0 in
     let m = after.move in
     let apart = no_clear t s m after.is_decided none in
     let P : Machine → Type 0 = λ z. (Waits z w → ⊥) → (Waits z u → ⊥) → StandsInFront z.current w.transaction u.transaction in

@@ -1,10 +1,9 @@
 -- Nobody waits at a TEST that holds: what its attempt read and nobody wrote since replies as it did.
-use Rattle.std.proofs.Common.{◌≡◌, ◌⊎◌, ℤ, pos, ℕ, zero, suc, ◌-◌, ◌^◌, ◌<◌, ◌≤◌, length, Bool, true, false, cond, not, nat_eq, ◌||◌, List, [], ◌∷◌, ◌++◌, Option, Some, None, unwrap_or, Result, Ok, Err, refl, sym, ap, ap₂, subst, ◌∙◌, inl, inr, arith}
+use Rattle.std.proofs.Common.{◌≡◌, ◌⊎◌, ℤ, pos, ℕ, ◌-◌, ◌^◌, ◌<◌, ◌≤◌, length, Bool, true, false, cond, nat_eq, ◌||◌, List, [], ◌∷◌, ◌++◌, Option, Some, None, unwrap_or, Result, Ok, Err, refl, sym, ap, ap₂, subst, ◌∙◌, inl, inr, arith}
 use Rattle.std.specs.Prelude.{Contains}
 use Rattle.std.specs.List.{AllByRecursion}
 use Rattle.std.proofs.lemmas.Bool.{cases_lt, or_parts, or_left, eq-eqb, and_parts, false≢true}
 use Rattle.std.proofs.lemmas.List.Folds.{list_any-append}
-use Rattle.gw_nums.specs.Range.{is_value, is_below}
 use Rattle.gw_names.specs.declared.class.Class.{Class}
 use Rattle.gw_names.specs.declared.class.Class.TheVariants as class
 use Rattle.gw_names.specs.declared.key.Key.{Key}
@@ -13,8 +12,6 @@ use Rattle.gw_names.specs.declared.verb.BlockVerb.TheVariants as blocks
 use Rattle.gw_entities.specs.Records.{Ownership, Line, Store}
 use Rattle.gw_entities.specs.Tables.{value_of, with_value}
 use Rattle.gw_entities.specs.Parameters.{parameter_at, values_at}
-use Rattle.gw_expr.specs.declared.stop.Stop.{Stop}
-use Rattle.gw_expr.specs.declared.stop.Stop.TheVariants.{Range, NoParameter}
 use Rattle.gw_expr.specs.declared.attribute.Subject.{Subject}
 use Rattle.gw_expr.specs.declared.attribute.Subject.TheVariants as subjects
 use Rattle.gw_expr.specs.Term.{Term}
@@ -22,8 +19,6 @@ use Rattle.gw_expr.specs.Evaluation.{Question, NumberOf, AttributeOf, PartOf, Va
 use Rattle.gw_expr.specs.Evaluation as operands
 use Rattle.gw_streams.specs.declared.stream.Stream.{Stream}
 use Rattle.gw_expr.specs.declared.halt.End.{End}
-use Rattle.gw_expr.specs.declared.halt.End.TheVariants as ends
-use Rattle.gw_meaning.specs.declared.item.Item.{Item}
 use Rattle.gw_meaning.specs.declared.item.Asked.TheVariants as asking
 use Rattle.gw_meaning.specs.declared.item.Item.TheVariants as items
 use Rattle.gw_meaning.specs.declared.asker.Asker.{Asker}
@@ -43,21 +38,23 @@ use Rattle.gw_meaning.specs.declared.watched.EntityKind.TheVariants as kinds
 use Rattle.gw_meaning.specs.declared.watched.Watched.{Watched}
 use Rattle.gw_meaning.specs.declared.watched.Watched.TheVariants as watched
 use Rattle.gw_meaning.specs.Statements.{A, B, C, operand}
-use Rattle.gw_meaning.specs.Listing.{Listing, block_at, label_at, number_at, capacity_at}
-use Rattle.gw_meaning.specs.Entities.{facility_at, line_at, store_at, savevalue_at, switch_at, table_at}
+use Rattle.gw_meaning.specs.Listing.{Listing, block_at, label_at}
+use Rattle.gw_meaning.specs.Entities.{store_at}
 use Rattle.gw_meaning.specs.Watching.{Waiter, same_watched, is_watched, with_watched, with_all_watched, transactions_of}
-use Rattle.gw_meaning.specs.Machine.{Machine, UserChain, zero_state, count_at, delay_at, user_chain_at}
-use Rattle.gw_meaning.specs.Questions.{Answer, ask, result_of}
-use Rattle.gw_meaning.specs.Evaluation.{Eval, gives, ends_with, asks, ◌~>◌, stops_if, in_range, amount, numbered, named, subject_prog, defined_prog, units_left, left_prog, counted, block_count, owned, one_if, value_held, parameter_value, value_there, entity_value, table_value, attribute_prog, reply_prog, evaluated, entity_watched, defined_watched, counts_of, counts_watched, watched_prog, watched_by, traced, value_traced}
+use Rattle.gw_meaning.specs.Machine.{Machine, UserChain, zero_state, count_at, delay_at}
+use Rattle.gw_meaning.specs.Questions.{result_of}
+use Rattle.gw_meaning.specs.Evaluation.{Eval, gives, asks, ◌~>◌, amount, numbered, subject_prog, defined_prog, left_prog, counted, block_count, owned, one_if, value_held, parameter_value, value_there, entity_value, table_value, attribute_prog, reply_prog, evaluated, entity_watched, defined_watched, counts_of, counts_watched, watched_prog, watched_by, traced, value_traced}
 use Rattle.gw_meaning.specs.Changes.{placed, all_copied, written_in, Making, made, maybe_made, all_made, making_of, deed_shares, let_in, one_let_in, some_let_in, changed, entering, refused, watching, with_active, moved, crossing, crossings, written_by, written_where, written, is_woken, decided}
-use Rattle.gw_meaning.specs.Step.{for_one, holds, test_prog, block_prog, meet_prog, decide, run}
+use Rattle.gw_meaning.specs.Step.{for_one, holds, test_prog, block_prog, run}
 use Rattle.gw_meaning.proofs.Traces as alone
-use Rattle.gw_meaning.proofs.Programs.{bind_gives, bind_ends}
+use Rattle.gw_meaning.proofs.Programs.{bind_gives}
 use Rattle.gw_frame.proofs.Moves.{settled, settled_is, marked_same, still_active, all_copied_keep, unlink_is, with_active_has, picked_has}
 use Rattle.gw_laws.specs.Waiters.{is_lasting, outlasts_reset, lasts_through, IsLasting, ComesTo, ReadsWhatLasts, WaitsSince, NobodyWaitsAtATestThatHolds, value_alone, TellingChangesNothing}
 use Rattle.gw_laws.proofs.Counts.{tally, tally_elsewhere, tally_made, tally_stood}
 use Rattle.gw_laws.proofs.Room.{all_low}
-use Rattle.gw_frame.proofs.Decided.{is_decided}
+use Rattle.gw_frame.proofs.Decided.{is_decided, unmoved}
+use Rattle.gw_frame.proofs.DecidedValues.{draws, IsQuiet, subject_decides, watched_by_decides, reply_decides}
+use Rattle.gw_frame.proofs.Lawful.{bind_parts}
 use Rattle.gw_frame.proofs.Known.{IsDecided}
 use Rattle.gw_model.specs.Well.{Well}
 use Rattle.gw_laws.specs.Destinations.{goes_to}
@@ -66,12 +63,12 @@ use Rattle.gw_laws.proofs.Crowd.{one, many_has, active_crowd}
 use Rattle.gw_laws.proofs.NumberLaws.{has_number, IsNumbered, all_numbered}
 use Rattle.gw_laws.proofs.OwnParameterLaws.{moved_elsewhere}
 use Rattle.gw_laws.proofs.WaiterLaws.{Stands, stands_of, contains_of, stands_transactions, all_stands, who_comes}
-use Rattle.gw_laws.proofs.GateLaws.{kept_of, SameEntity, KeptEntity, moved_entity, moved_kept, with_has, unread_unwritten, IsRefusedAt, refused_at, IfWatches, passes_or, one_of, all_wait_on}
+use Rattle.gw_laws.proofs.GateLaws.{kept_of, SameEntity, KeptEntity, moved_entity, moved_kept, with_has, unread_unwritten, IsRefusedAt, refused_at, IfWatches, passes_or, tried_here, all_wait_on}
 use Rattle.gw_laws.proofs.Anew.{count_reset, no_reset_decided}
 use Rattle.gw_laws.specs.Anew.{Resets, Clears, NoneBetween}
 use Rattle.gw_meaning.specs.declared.statement.Command.TheVariants as commands
-use Rattle.gw_frame.proofs.Running.{last_step}
-use Rattle.gw_laws.proofs.EndLaws.{went_on, ends_for_good}
+use Rattle.gw_frame.proofs.Running.{over_steps}
+use Rattle.gw_laws.proofs.EndLaws.{ends_for_good}
 
 -- what lasts through a RESET, lasts
 does_last : (resets : Bool) (class : Class) → lasts_through resets class ≡ true → is_lasting class ≡ true
@@ -83,40 +80,18 @@ not_through : (resets : Bool) (class : Class) → outlasts_reset class ≡ false
 not_through true class counted is = absurd (false≢true (sym counted ∙ (and_parts (is_lasting class) (outlasts_reset class) is).1))
 not_through false class counted is = refl
 
+-- nor does what lasts draw
+no_draw : (class : Class) → is_lasting class ≡ true → draws class ≡ false
+no_draw class.Rn is = absurd cc
+no_draw class is = refl
+
 module _ (resets : Bool) (t : Listing) (seed : ℕ) where
-  -- ---- what an evaluation of two parts comes to
-
-  pub bind_parts : {A B : Type 0} (p : Eval A) (k : A → Eval B) (before : List Stream) (r : B × List Stream) → result_of t seed ((p ~> k) before) ≡ Ok r →
-      (a : A × List Stream) × (result_of t seed (p before) ≡ Ok a) × (result_of t seed (k a.0 a.1) ≡ Ok r)
-  bind_parts {A} {B} p k before r is = go (result_of t seed (p before)) refl where
-    go : (first : Result (A × List Stream) End) → result_of t seed (p before) ≡ first →
-        (a : A × List Stream) × (result_of t seed (p before) ≡ Ok a) × (result_of t seed (k a.0 a.1) ≡ Ok r)
-    go (Ok a) there = (a, there, sym (bind_gives t seed (p before) (λ b. k b.0 b.1) a there).0 ∙ is)
-    go (Err end) there = absurd (let whole : Err end ≡ Ok r = sym (bind_ends t seed (p before) (λ b. k b.0 b.1) end there).0 ∙ is in cc)
-
   -- it draws nothing, and what it comes to does not hang on the streams
   abbrev IsSteady : {A : Type 0} → Eval A → Type 0
   IsSteady {A} p = (before : List Stream) (r : A × List Stream) → result_of t seed (p before) ≡ Ok r → ComesTo t seed p r.0
 
   abbrev Comes : {A : Type 0} → Eval A → A → Type 0
   Comes p a = ComesTo t seed p a
-
-  pub steady_gives : {A : Type 0} (a : A) → IsSteady (gives a)
-  steady_gives {A} a before r is = let same : (a, before) ≡ r = cc in λ streams. ap (λ (v : A × List Stream). Ok (v.0, streams)) same
-
-  steady_ends : {A : Type 0} (end : End) → IsSteady (ends_with {A = A} end)
-  steady_ends end before r is = absurd cc
-
-  steady_stops : {A : Type 0} (b : Bool) (stop : Stop) (p : Eval A) → IsSteady p → IsSteady (stops_if b stop p)
-  steady_stops true stop p h = λ before r is. absurd cc
-  steady_stops false stop p h = h
-
-  steady_bind : {A B : Type 0} (p : Eval A) (k : A → Eval B) → IsSteady p → ((a : A) → IsSteady (k a)) → IsSteady (p ~> k)
-  steady_bind p k first second before r is =
-      let parts = bind_parts p k before r is in
-      let one = first before parts.0 parts.1 in
-      let two = second parts.0.0 parts.0.1 r parts.2 in
-      λ streams. (bind_gives t seed (p streams) (λ b. k b.0 b.1) (parts.0.0, streams) (one streams)).0 ∙ two streams
 
   -- of two parts, behind the first
   behind : {A B : Type 0} (p : Eval A) (k : A → Eval B) (a : A) (b : B) → Comes p a → Comes (p ~> k) b → Comes (k a) b
@@ -129,156 +104,19 @@ module _ (resets : Bool) (t : Listing) (seed : ℕ) where
 
   -- ---- what lasts is steady
 
-  steady_range : (z : ℤ) → IsSteady (in_range z)
-  steady_range z = go (is_value z) where
-    go : (b : Bool) → IsSteady (cond b (gives z) (ends_with (ends.Error Range)))
-    go true = steady_gives z
-    go false = steady_ends (ends.Error Range)
-
-  steady_numbered : (n : ℤ) → IsSteady (numbered n)
-  steady_numbered n = steady_stops (is_below n (pos 1)) _ _ (steady_gives _)
-
-  steady_named : (name : List ℕ) (number : Option ℤ) → IsSteady (named name number)
-  steady_named name None = steady_gives (keys.Named name)
-  steady_named name (Some n) = steady_numbered n
-
-  -- an answer leads to the rest
-  steady_asks : {A : Type 0} (i : Item) (k : Answer i → Eval A) → IsSteady (k (ask t seed i)) → IsSteady (asks i k)
-  steady_asks i k h = λ before r is. h before r is
+  is_quiet : (question : Question) → IsLasting resets question → IsQuiet question
+  is_quiet (AttributeOf class of) is = no_draw class (does_last resets class is)
+  is_quiet (PartOf of) is = is
+  is_quiet question is = tt
 
   steady_subject : (of : Subject) → IsSteady (subject_prog of)
-  steady_subject subjects.Own = steady_ends (ends.Error Range)
-  steady_subject (subjects.Number n) = steady_numbered (pos n)
-  steady_subject (subjects.Name name) = steady_asks (items.Named asking.Number name) (named name) (steady_named name (number_at t name))
-
-  steady_watched_entity : (kind : EntityKind) (of : Subject) → IsSteady (entity_watched kind of)
-  steady_watched_entity kind of = steady_bind (subject_prog of) _ (steady_subject of) (λ key. steady_gives _)
-
-  steady_defined : (kind : EntityKind) (of : Subject) → IsSteady (defined_watched kind of)
-  steady_defined kind subjects.Own = steady_gives []
-  steady_defined kind (subjects.Number n) = steady_gives []
-  steady_defined kind (subjects.Name name) = steady_gives _
-
-  steady_counts : (of : Subject) → IsSteady (counts_watched of)
-  steady_counts subjects.Own = steady_gives []
-  steady_counts (subjects.Number n) = steady_gives []
-  steady_counts (subjects.Name name) =
-      steady_asks (items.Named asking.Label name) (λ id. gives (counts_of id)) (steady_gives (counts_of (label_at t name)))
-
-  steady_watched : (class : Class) (of : Subject) → IsSteady (watched_prog class of)
-  unfolding watched_prog
-  steady_watched class.F of = steady_watched_entity kinds.Facility of
-  steady_watched class.Fc of = steady_watched_entity kinds.Facility of
-  steady_watched class.Q of = steady_watched_entity kinds.Queue of
-  steady_watched class.Qc of = steady_watched_entity kinds.Queue of
-  steady_watched class.Qm of = steady_watched_entity kinds.Queue of
-  steady_watched class.Qz of = steady_watched_entity kinds.Queue of
-  steady_watched class.X of = steady_watched_entity kinds.Savevalue of
-  steady_watched class.Ls of = steady_watched_entity kinds.Switch of
-  steady_watched class.Ch of = steady_watched_entity kinds.UserChain of
-  steady_watched class.Cc of = steady_watched_entity kinds.UserChain of
-  steady_watched class.S of = steady_defined kinds.Storage of
-  steady_watched class.R of = steady_defined kinds.Storage of
-  steady_watched class.Sc of = steady_defined kinds.Storage of
-  steady_watched class.Sm of = steady_defined kinds.Storage of
-  steady_watched class.Tc of = steady_defined kinds.Table of
-  steady_watched class.N of = steady_counts of
-  steady_watched class.W of = steady_counts of
-  steady_watched class of = steady_gives []
+  steady_subject of = (subject_decides (unmoved t seed zero_state) (Unit {0}) of).steady tt
 
   steady_by : (question : Question) → IsSteady (watched_by question)
-  steady_by (NumberOf name) = steady_gives []
-  steady_by (AttributeOf class of) = steady_watched class of
-  steady_by (PartOf of) = steady_gives []
-  steady_by (VariableOf name) = steady_gives []
-  steady_by (FunctionOf name) = steady_gives []
+  steady_by question = (watched_by_decides (unmoved t seed zero_state) (Unit {0}) question).steady tt
 
-  module _ (s : Machine) (q : Asker) where
-    steady_held : (v : Option ℤ) → IsSteady (value_held v)
-    steady_held None = steady_ends (ends.Error NoParameter)
-    steady_held (Some v) = steady_gives v
-
-    steady_of_entity : (class : Class) (key : Key) → IsSteady (entity_value s class key)
-    steady_of_entity class.F key = steady_range (pos (owned (facility_at s.entities key).owner))
-    steady_of_entity class.Fc key = steady_range (pos (facility_at s.entities key).captures)
-    steady_of_entity class.Q key = steady_range (pos (line_at s.entities key).level.content)
-    steady_of_entity class.Qc key = steady_range (pos (line_at s.entities key).entries)
-    steady_of_entity class.Qm key = steady_range (pos (line_at s.entities key).greatest)
-    steady_of_entity class.Qz key = steady_range (pos (line_at s.entities key).zero_entries)
-    steady_of_entity class.X key = steady_gives (unwrap_or (savevalue_at s.entities key) (pos 0))
-    steady_of_entity class.Ls key = steady_range (pos (one_if (switch_at s.entities key)))
-    steady_of_entity class.Ch key = steady_range (pos (length (user_chain_at s.linked key).members))
-    steady_of_entity class.Cc key = steady_range (pos (user_chain_at s.linked key).entries)
-    steady_of_entity class key = steady_ends (ends.Error Range)
-
-    steady_entity : (class : Class) (of : Subject) → IsSteady (subject_prog of ~> (λ key. entity_value s class key))
-    steady_entity class of = steady_bind (subject_prog of) (λ key. entity_value s class key) (steady_subject of) (steady_of_entity class)
-
-    steady_stored : (f : Store → ℕ) (of : Subject) → IsSteady (defined_prog of (λ key. amount (f (store_at s.entities key))))
-    steady_stored f subjects.Own = steady_ends (ends.Error Range)
-    steady_stored f (subjects.Number n) = steady_ends (ends.Error Range)
-    steady_stored f (subjects.Name name) = steady_range (pos (f (store_at s.entities (keys.Defined name))))
-
-    steady_table : (of : Subject) → IsSteady (defined_prog of (λ key. table_value s key))
-    steady_table subjects.Own = steady_ends (ends.Error Range)
-    steady_table (subjects.Number n) = steady_ends (ends.Error Range)
-    steady_table (subjects.Name name) = steady_range (pos (length (table_at s.entities (keys.Defined name))))
-
-    steady_left : (of : Subject) → IsSteady (left_prog s of)
-    steady_left subjects.Own = steady_ends (ends.Error Range)
-    steady_left (subjects.Number n) = steady_ends (ends.Error Range)
-    steady_left (subjects.Name name) =
-        steady_asks (items.Named asking.Storage name) (units_left s (keys.Defined name))
-        (steady_range (pos (capacity_at t name - (store_at s.entities (keys.Defined name)).level.content)))
-
-    steady_counted : (f : Count → ℕ) (id : Option ℕ) → IsSteady (counted id (λ id. amount (f (count_at s.counts id))))
-    steady_counted f None = steady_ends (ends.Error Range)
-    steady_counted f (Some id) = steady_range (pos (f (count_at s.counts id)))
-
-    steady_block : (f : Count → ℕ) (of : Subject) → IsSteady (block_count of (λ id. amount (f (count_at s.counts id))))
-    steady_block f subjects.Own = steady_ends (ends.Error Range)
-    steady_block f (subjects.Number n) = steady_ends (ends.Error Range)
-    steady_block f (subjects.Name name) =
-        steady_asks (items.Named asking.Label name) (λ id. counted id (λ id. amount (f (count_at s.counts id)))) (steady_counted f (label_at t name))
-
-    steady_attribute : (class : Class) (of : Subject) → is_lasting class ≡ true → IsSteady (attribute_prog s q class of)
-    unfolding attribute_prog
-    steady_attribute class.F of is = steady_entity class.F of
-    steady_attribute class.Fc of is = steady_entity class.Fc of
-    steady_attribute class.S of is = steady_stored (λ q. q.level.content) of
-    steady_attribute class.R of is = steady_left of
-    steady_attribute class.Sc of is = steady_stored (λ q. q.entries) of
-    steady_attribute class.Sm of is = steady_stored (λ q. q.greatest) of
-    steady_attribute class.Q of is = steady_entity class.Q of
-    steady_attribute class.Qc of is = steady_entity class.Qc of
-    steady_attribute class.Qm of is = steady_entity class.Qm of
-    steady_attribute class.Qz of is = steady_entity class.Qz of
-    steady_attribute class.N of is = steady_block (λ c. c.entries) of
-    steady_attribute class.W of is = steady_block (λ c. c.content) of
-    steady_attribute class.X of is = steady_entity class.X of
-    steady_attribute class.Ls of is = steady_entity class.Ls of
-    steady_attribute class.Ch of is = steady_entity class.Ch of
-    steady_attribute class.Cc of is = steady_entity class.Cc of
-    steady_attribute class.Tc of is = steady_table of
-    steady_attribute class.P of is =
-        steady_bind (subject_prog of) (λ key. parameter_value s q key) (steady_subject of)
-        (λ key. steady_stops (not q.is_transaction) NoParameter _ (steady_held (parameter_at s.parameters q.number key)))
-    steady_attribute class.Pr of is = steady_stops (not q.is_transaction) NoParameter (gives q.priority) (steady_gives q.priority)
-    steady_attribute class.Xn1 of is = steady_stops (not q.is_transaction) NoParameter (amount q.number) (steady_range (pos q.number))
-    steady_attribute class of is = absurd cc
-
-    steady_through : (class : Class) (of : Subject) → lasts_through resets class ≡ true → IsSteady (attribute_prog s q class of)
-    steady_through class of is = steady_attribute class of (does_last resets class is)
-
-    pub steady_reply : (question : Question) → IsLasting resets question → IsSteady (reply_prog s q question)
-    steady_reply (NumberOf name) is =
-        steady_asks (items.Named asking.Number name) (λ number. gives number) (steady_gives (ask t seed (items.Named asking.Number name)))
-    steady_reply (AttributeOf class of) is = steady_through class of is
-    steady_reply (PartOf of) is = absurd is
-    steady_reply (VariableOf name) is =
-        steady_asks (items.Named asking.Variable name) (λ e. gives e) (steady_gives (ask t seed (items.Named asking.Variable name)))
-    steady_reply (FunctionOf name) is =
-        steady_asks (items.Named asking.Function name) (λ f. gives f) (steady_gives (ask t seed (items.Named asking.Function name)))
+  steady_reply : (s : Machine) (q : Asker) (question : Question) → IsLasting resets question → IsSteady (reply_prog s q question)
+  steady_reply s q question is = (reply_decides (unmoved t seed s) (Unit {0}) q question (λ quiet. is_quiet question is)).steady tt
 
   -- ---- what was read
 
@@ -324,9 +162,9 @@ module _ (resets : Bool) (t : Listing) (seed : ℕ) where
       (λ w h. subst (λ list. is_watched list w ≡ true) read_is h, λ all sub. ap (λ (v : (_ × List Watched) × List Stream). v.0.0) same)
   traced_came s q read (Stops stop) before r is = absurd cc
   traced_came s q read (Wants question k) before r is =
-      let parts = bind_parts (watched_by question) _ before r is in
+      let parts = bind_parts t seed (watched_by question) _ before r is in
       let more = parts.0.0 in
-      let rest = bind_parts (reply_prog s q question) _ parts.0.1 r parts.2 in
+      let rest = bind_parts t seed (reply_prog s q question) _ parts.0.1 r parts.2 in
       let behind' = traced_came s q (with_all_watched read more) (k rest.0.0) rest.0.1 r rest.2 in (
         λ w h. behind'.0 w (within_all read more w h),
         λ all sub lasting. (
@@ -373,7 +211,7 @@ module _ (resets : Bool) (t : Listing) (seed : ℕ) where
   entity_read : (kind : EntityKind) (of : Subject) (more : List Watched) → Comes (entity_watched kind of) more →
       (key : Key) × Comes (subject_prog of) key × (more ≡ watched.Entity kind key ∷ [])
   entity_read kind of more is =
-      let parts = bind_parts (subject_prog of) (λ key. gives (watched.Entity kind key ∷ [])) [] (more, []) (is []) in
+      let parts = bind_parts t seed (subject_prog of) (λ key. gives (watched.Entity kind key ∷ [])) [] (more, []) (is []) in
       (parts.0.0, steady_subject of [] parts.0 parts.1, sym (read_is parts.0.0 parts.0.1 parts.2)) where
         read_is : (key : Key) (streams : List Stream) → result_of t seed (gives (watched.Entity kind key ∷ []) streams) ≡ Ok (more, []) →
             watched.Entity kind key ∷ [] ≡ more
@@ -522,7 +360,7 @@ module _ (resets : Bool) (t : Listing) (seed : ℕ) where
     attribute_replies class.Tc of more reply lasting reads all is =
         table_replies of more reply (not_through resets class.Tc refl lasting) reads all is
     attribute_replies class.P of more reply lasting reads all is =
-        let parts = bind_parts (subject_prog of) (λ key. parameter_value s (for_one s x) key) [] (reply, []) (is []) in
+        let parts = bind_parts t seed (subject_prog of) (λ key. parameter_value s (for_one s x) key) [] (reply, []) (is []) in
         let key = parts.0.0 in
         let there = steady_subject of [] parts.0 parts.1 in
         together (subject_prog of) (λ key. parameter_value u (for_one u x) key) key reply there
@@ -645,8 +483,8 @@ test_came : (resets : Bool) (t : Listing) (seed : ℕ) (s : Machine) (q : Asker)
     (x y : ℤ) × (holds relation x y ≡ false) × Came resets t seed s q read (operands.value_of first) x ×
     Came resets t seed s q read (operands.value_of second) y
 test_came resets t seed s q id relation first second None read before after is =
-    let one' = bind_parts resets t seed (value_traced s q [] (Some first)) _ before (moves.Watch read, after) is in
-    let two = bind_parts resets t seed (value_traced s q one'.0.0.1 (Some second)) _ one'.0.1 (moves.Watch read, after) one'.2 in
+    let one' = bind_parts t seed (value_traced s q [] (Some first)) _ before (moves.Watch read, after) is in
+    let two = bind_parts t seed (value_traced s q one'.0.0.1 (Some second)) _ one'.0.1 (moves.Watch read, after) one'.2 in
     let last = (passes_or t seed s id None two.0.0.1 (holds relation one'.0.0.0 two.0.0.0)).from two.0.1 (moves.Watch read, after) two.2 in
     let left' = traced_came resets t seed s q [] (operands.value_of first) before one'.0 one'.1 in
     let right' = traced_came resets t seed s q one'.0.0.1 (operands.value_of second) one'.0.1 two.0 two.1 in
@@ -659,8 +497,8 @@ test_came resets t seed s q id relation first second None read before after is =
       right'.1 read all,
     )
 test_came resets t seed s q id relation first second (Some label) read before after is =
-    let one' = bind_parts resets t seed (value_there s q (Some first)) _ before (moves.Watch read, after) is in
-    let two = bind_parts resets t seed (value_there s q (Some second)) _ one'.0.1 (moves.Watch read, after) one'.2 in
+    let one' = bind_parts t seed (value_there s q (Some first)) _ before (moves.Watch read, after) is in
+    let two = bind_parts t seed (value_there s q (Some second)) _ one'.0.1 (moves.Watch read, after) one'.2 in
     let last = (passes_or t seed s id (Some label) [] (holds relation one'.0.0 two.0.0)).from two.0.1 (moves.Watch read, after) two.2 in
     absurd (let no : Some label ≡ None = last.0 in cc)
 
@@ -674,15 +512,12 @@ AtTest resets t seed s w =
     × Came resets t seed s (for_one s w.transaction) w.read (operands.value_of second) y
 
 test_refused : (resets : Bool) (t : Listing) (seed : ℕ) (s : Machine) (read : List Watched) (r : IsRefusedAt t seed s read) →
-    AtTest resets t seed s (record { transaction = r.x; read = read })
+    AtTest resets t seed s (record { transaction = r.who; read = read })
 test_refused resets t seed s read r id b first second goes there verb one' two =
-    let same : r.id ≡ id = one_of r.id id (sym r.goes ∙ goes) in
-    let at : block_at t r.id ≡ Some b = ap (block_at t) same ∙ there in
-    let tries : result_of t seed (meet_prog s r.x r.id (Some b) r.before) ≡ Ok (moves.Watch read, r.after) =
-    subst (λ o. result_of t seed (meet_prog s r.x r.id o r.before) ≡ Ok (moves.Watch read, r.after)) at r.tries in
-    let tests : result_of t seed (block_prog s r.x r.id b blocks.Test r.before) ≡ Ok (moves.Watch read, r.after) =
-    subst (λ v. result_of t seed (block_prog s r.x r.id b v r.before) ≡ Ok (moves.Watch read, r.after)) verb tries in
-    let q = for_one s r.x in
+    let tries = tried_here t seed s (moves.Watch read) r id b goes there in
+    let tests : result_of t seed (block_prog s r.who r.id b blocks.Test r.before) ≡ Ok (moves.Watch read, r.after) =
+    subst (λ v. result_of t seed (block_prog s r.who r.id b v r.before) ≡ Ok (moves.Watch read, r.after)) verb tries in
+    let q = for_one s r.who in
     let left' : result_of t seed (test_prog s q r.id b.auxiliary (Some first) (operand b B) (operand b C) r.before) ≡ Ok (moves.Watch read, r.after) =
     subst (λ o. result_of t seed (test_prog s q r.id b.auxiliary o (operand b B) (operand b C) r.before) ≡ Ok (moves.Watch read, r.after)) one' tests in
     let both : result_of t seed (test_prog s q r.id b.auxiliary (Some first) (Some second) (operand b C) r.before) ≡ Ok (moves.Watch read, r.after) =
@@ -731,7 +566,7 @@ Tested resets t seed s m w = AtTest resets t seed s w × ((Clears m → ⊥) →
 coming_tested : (resets : Bool) (t : Listing) (seed : ℕ) (s : Machine) (m : Move) → IfWatches (IsRefusedAt t seed s) m →
     AllByRecursion (Tested resets t seed s m) (who_comes m s.active)
 coming_tested resets t seed s (moves.Watch read) r =
-    let w : Waiter = record { transaction = r.x; read = read } in
+    let w : Waiter = record { transaction = r.who; read = read } in
     let own : OwnStays s (moves.Watch read) w = λ key.
     with_active_has (λ v. parameter_at v.parameters w.transaction.number key ≡ parameter_at s.parameters w.transaction.number key) s.active
     (λ x. watching s x read) s refl (λ x is. refl) in
@@ -764,29 +599,6 @@ test_stays resets t seed s m streams none w apart unread tested = λ id b first 
       still_came resets t seed s u w.read w.transaction stays (operands.value_of second) h.1 h.4,
     ))
 
--- what a state of a run has and each decision behind it keeps, each later state has
-over_later : (t : Listing) (seed : ℕ) (P : ℕ → Machine → Type 0) (m : ℕ) (start : Machine) → run t seed m ≡ Ok start → P m start →
-    ((n : ℕ) (s : Machine) (d : Move × List Stream) → m ≤ n → run t seed n ≡ Ok s → result_of t seed (decide s) ≡ Ok d → P n s →
-    P (suc n) (decided s d.0 d.1)) →
-    (n : ℕ) (s : Machine) → m ≤ n → run t seed n ≡ Ok s → P n s
-over_later t seed P m start at first keeps zero v before is = let same : m ≡ zero = omega arith in here same where
-  here : m ≡ zero → P zero v
-  here same = let both : Ok start ≡ Ok v = sym at ∙ (ap (run t seed) same ∙ is) in let states : start ≡ v = cc in
-      subst (λ k. P k v) same (subst (P m) states first)
-over_later t seed P m start at first keeps (suc n) v before is =
-    elim (cases_lt n m) [
-      | inl late ↦ here (omega arith)
-      | inr early ↦
-          let last = last_step t seed n v is in
-          let went = went_on t seed last.before v last.goes in
-          subst (P (suc n)) (sym went.2)
-          (keeps n last.before went.0 early last.there went.1 (over_later t seed P m start at first keeps n last.before early last.there))
-    ]
-  where
-    here : m ≡ suc n → P (suc n) v
-    here same = let both : Ok start ≡ Ok v = sym at ∙ (ap (run t seed) same ∙ is) in let states : start ≡ v = cc in
-        subst (λ k. P k v) same (subst (P m) states first)
-
 each_stands : (Q : Waiter → Type 0) (ws : List Waiter) → ((w : Waiter) → Stands ws w → Q w) → AllByRecursion Q ws
 each_stands Q [] each = tt
 each_stands Q (w ∷ ws) each = (each w (inl refl), each_stands Q ws (λ v there. each v (inr there)))
@@ -814,21 +626,21 @@ module _ (resets : Bool) (t : Listing) (seed : ℕ) (well : Well t) (m : ℕ) (s
   tests_fail : run t seed m ≡ Ok start → (n : ℕ) (s : Machine) → m ≤ n → run t seed n ≡ Ok s → n ≤ t.limit → NoReset n →
       AllByRecursion (CameOr s) s.retry
   tests_fail at =
-      over_later t seed (λ n s. n ≤ t.limit → NoReset n → AllByRecursion (CameOr s) s.retry) m start at
+      over_steps t seed (λ n s. n ≤ t.limit → NoReset n → AllByRecursion (CameOr s) s.retry) m start at
       (λ within none. each_stands (CameOr start) start.retry (λ w stands. inl (contains_of start.retry w stands)))
-      (λ n s d from there goes all within none.
+      (λ n s move streams from there goes all within none.
       let early : n ≤ t.limit = omega (arith, within) in
       let numbered = all_numbered t seed well n s there early in
-      let own : (w : Waiter) → Stands s.retry w → (Clears d.0 → ⊥) → OwnStays s d.0 w =
-      λ w stands apart. waiting_own t s d.0 w (all_low t seed n s there) (is_decided t seed s d goes) apart numbered (contains_of s.retry w stands) in
+      let own : (w : Waiter) → Stands s.retry w → (Clears move → ⊥) → OwnStays s move w =
+      λ w stands apart. waiting_own t s move w (all_low t seed n s there) (is_decided t seed s (move, streams) goes) apart numbered (contains_of s.retry w stands) in
       let earlier : NoReset n = λ never k u start' below. none never k u start' (omega (arith, below)) in
-      let no_reset : resets ≡ false → Resets d.0 → ⊥ =
-      λ never. no_reset_decided t s d.0 (is_decided t seed s d goes) (none never n s from (omega arith) there) in
-      all_wait_on (CameOrTested s d.0) (CameOr (decided s d.0 d.1)) s d.0 d.1
-      (each_tested (CameOr s) (λ w. (Clears d.0 → ⊥) → OwnStays s d.0 w) s.retry own (all early earlier))
-      (each_more (Tested resets t seed s d.0) (CameOrTested s d.0) (who_comes d.0 s.active) (λ w tested. (inr tested.0, tested.1))
-      (coming_tested resets t seed s d.0 (refused_at t seed s d goes)))
-      (came_stays s d.0 d.1 no_reset))
+      let no_reset : resets ≡ false → Resets move → ⊥ =
+      λ never. no_reset_decided t s move (is_decided t seed s (move, streams) goes) (none never n s from (omega arith) there) in
+      all_wait_on (CameOrTested s move) (CameOr (decided s move streams)) s move streams
+      (each_tested (CameOr s) (λ w. (Clears move → ⊥) → OwnStays s move w) s.retry own (all early earlier))
+      (each_more (Tested resets t seed s move) (CameOrTested s move) (who_comes move s.active) (λ w tested. (inr tested.0, tested.1))
+      (coming_tested resets t seed s move (refused_at t seed s (move, streams) goes)))
+      (came_stays s move streams no_reset))
 
 -- a run that came so far came to a state before
 state_before : (t : Listing) (seed m n : ℕ) (s : Machine) → m ≤ n → run t seed n ≡ Ok s → (u : Machine) × (run t seed m ≡ Ok u)
