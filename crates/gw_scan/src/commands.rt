@@ -1,5 +1,5 @@
 // START, RESET, CLEAR and RMULT.
-ghost use Rattle.std.specs.Prelude.{◌≡◌, option_copied};
+ghost use Rattle.std.specs.Prelude.{option_copied};
 ghost use Rattle.gw_meaning.specs.Step.{move_prog, command_prog, start_prog, first_arrivals_prog};
 ghost use Rattle.gw_asking.specs.Deciding.{Decides};
 

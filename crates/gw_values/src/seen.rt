@@ -1,13 +1,11 @@
 // What an evaluation of operands asks of a state.
-ghost use Rattle.gw_meaning.specs.Evaluation.{attribute_prog};
-ghost use Rattle.gw_asking.specs.Deciding.{Decides};
-ghost use Rattle.gw_values.specs.Seeing.{IsStill, Replies};
+ghost use Rattle.gw_values.specs.Seeing.{Replies};
 
 use crate::attributes::{attribute, random_part};
 use gw_asking::{Case, Notes, ask_number};
 use gw_expr::{Halt, Sna, Subject, World};
 use gw_meaning::{Asked, Asker};
-use gw_names::{Class, Name};
+use gw_names::Name;
 use gw_nums::{Millionths, Val};
 use gw_state::State;
 

@@ -1,7 +1,7 @@
 // What an evaluation of operands asks of a state, where it is kept besides what it reads that a block may write.
 ghost use Rattle.std.specs.Prelude.{◌≡◌, OnOk};
 ghost use Rattle.std.specs.Option.{option_to_list};
-ghost use Rattle.gw_meaning.specs.Evaluation.{subject_prog, entity_watched, defined_watched, counts_watched, counts_of, watched_prog};
+ghost use Rattle.gw_meaning.specs.Evaluation.{entity_watched, defined_watched, counts_watched, counts_of, watched_prog};
 ghost use Rattle.gw_meaning.specs.Watching.{is_watched, with_watched, with_all_watched};
 ghost use Rattle.gw_asking.specs.Deciding.{Decides};
 ghost use Rattle.gw_values.specs.Tracing.{IsTracedStill, TracedReplies, attribute_traced, listed, with_read};

@@ -1,6 +1,6 @@
 // ASSIGN and LOOP: what a block sets of a parameter; and the value of a parameter.
 ghost use Rattle.std.specs.Prelude.{◌≡◌, pos, option_copied};
-ghost use Rattle.gw_meaning.specs.Evaluation.{arithmetic, value_held, parameter_value};
+ghost use Rattle.gw_meaning.specs.Evaluation.{arithmetic};
 ghost use Rattle.gw_meaning.specs.Step.{by_sign, or_zero, assign_with, assign_prog, left_of, loop_back, loop_to, loop_with, loop_prog};
 ghost use Rattle.gw_asking.specs.Deciding.{Decides, Comes};
 
