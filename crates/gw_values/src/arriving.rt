@@ -24,7 +24,9 @@ fn is_full(state: &State) -> bool
     state.living() >= LIVE_LIMIT
 }
 
-// The next transaction of the GENERATE at `id`: its limit, then its time, then its priority.
+/// The next transaction of the GENERATE at `id`: its limit is evaluated, then its time, then its priority. None comes
+/// where the limit is reached. X11 where the limit is below 0, X1 where the time is, X9 where 100,000 transactions
+/// live.
 pub fn arrival(
     state: &State,
     case: Case,
@@ -93,7 +95,8 @@ fn arrival_at(
     }))
 }
 
-// The first transactions of the GENERATEs at these ids, in order.
+/// The first transactions of the GENERATEs at these ids, in order, each behind its offset or its time in ticks. It
+/// stops as [`arrival`] does; a block that is no GENERATE has none.
 pub fn arrivals(
     state: &State,
     case: Case,

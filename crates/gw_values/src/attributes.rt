@@ -12,7 +12,7 @@ use gw_names::{Class, Key, Name};
 use gw_nums::{Millionths, Time, Val};
 use gw_state::State;
 
-// Who asks: a transaction.
+/// Who asks: a transaction, with its number, its priority and its mark time, and the termination count that is left.
 pub fn for_one(state: &State, x: &Transaction) -> Asker
     ensures { result ≡ for_one state.now x.now }
 {
@@ -240,7 +240,7 @@ fn value_held(value: Option<Val>) -> Result<Val, Halt>
     }
 }
 
-// Who asks: no transaction.
+/// Who asks: no transaction, as for the operands of a GENERATE. P, PR, M1 and XN1 are X5 then.
 pub fn for_none(remaining: u64) -> Asker
     ensures { result ≡ for_none remaining }
 {

@@ -35,7 +35,8 @@ pub fn value(
     eval(operand, case.version, &mut seen)
 }
 
-// The value of an operand that is there.
+/// The value of an operand that is there. It stops as its evaluation does, and with X7 where the operand is absent,
+/// which no version that was read lacks.
 pub fn value_there(
     state: &State,
     case: Case,
@@ -53,7 +54,7 @@ pub fn value_there(
     }
 }
 
-// The value of an operand, or 0 where it is absent.
+/// The value of an operand, or 0 where it is absent.
 pub fn value_or_zero(
     state: &State,
     case: Case,
@@ -71,7 +72,8 @@ pub fn value_or_zero(
     }
 }
 
-// The entity that an operand names.
+/// The key of the entity that an operand names: a name's own, or the number that it stands for or that the operand
+/// comes to. X7 where that number is below 1.
 pub fn key_of(
     state: &State,
     case: Case,
@@ -109,7 +111,7 @@ fn computed_entity(
     key_numbered(number)
 }
 
-// How many units an operand says, and 1 where it is absent.
+/// How many units an operand says, and 1 where it is absent. X11 where it says less than 1.
 pub fn units_of(
     state: &State,
     case: Case,
@@ -130,7 +132,8 @@ pub fn units_of(
     Ok(units.magnitude() as u32)
 }
 
-// The value of an operand that is there; what it reads comes behind what was read before.
+/// The value of an operand that is there. What a block may write of what it reads comes behind what was read before,
+/// each thing once.
 pub fn value_traced(
     state: &State,
     case: Case,
@@ -171,7 +174,7 @@ fn evaluation_traced(
     eval(operand, case.version, &mut traced)
 }
 
-// The entity that an operand names, with what was read to find it.
+/// The key of the entity that an operand names, with what was read to find it.
 pub fn entity_traced(
     state: &State,
     case: Case,

@@ -11,7 +11,8 @@ use gw_meaning::Asker;
 use gw_nums::Val;
 use gw_state::State;
 
-// A time of mean plus or minus range, or times the FUNCTION that stands in the place of a range.
+/// A time in ticks: mean plus or minus range, drawn from stream 1 where the range is above 0, or mean times the
+/// FUNCTION that stands in the place of a range. It may be below 0, as where the range is; X7 where it is no value.
 pub fn time(
     state: &State,
     case: Case,

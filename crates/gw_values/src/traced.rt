@@ -161,6 +161,7 @@ fn keep(read: &mut Vec<Watched>, thing: Option<Watched>) -> Result<(), AllocErro
     }
 }
 
+/// A thing comes behind the others that were read, unless it is there.
 pub fn keep_once(read: &mut Vec<Watched>, thing: Watched) -> Result<(), AllocError>
     ensures { OnOk result (read.new.items ≡ with_watched read.old.items thing) }
 {

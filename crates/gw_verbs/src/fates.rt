@@ -10,7 +10,7 @@ use gw_meaning::{Asker, Fate, Move, StatementId};
 use gw_state::State;
 use gw_values::{time, value_or_zero};
 
-// A transaction is held for a time.
+/// ADVANCE: the transaction is held for a time; one of 0 leaves it active. X1 where the time is below 0.
 pub fn decide_advance(
     state: &State,
     case: Case,
@@ -44,7 +44,7 @@ fn delay(state: &State, ticks: u64) -> Fate
     }
 }
 
-// A transaction is destroyed, and takes from the termination count.
+/// TERMINATE: the transaction is destroyed, and takes A, or 0, from the termination count. X11 where A is below 0.
 pub fn decide_terminate(
     state: &State,
     case: Case,
@@ -64,7 +64,7 @@ pub fn decide_terminate(
     Ok(enter_for(id, Fate::Destroyed { count }))
 }
 
-// A transaction lets its equals on the current chain move first.
+/// BUFFER: the transaction lets its equals on the current chain move first.
 pub fn decide_buffer(id: StatementId) -> Result<Move, Halt>
     ensures { Comes (buffer_prog id) result }
 {

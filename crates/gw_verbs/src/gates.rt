@@ -15,7 +15,8 @@ use gw_names::{Key, StorageName};
 use gw_state::State;
 use gw_values::{entity_traced, keep_once, key_of};
 
-// By the condition that the operator says.
+/// GATE: the transaction passes where the condition that the operator says holds of its entity. Else it goes to the
+/// block with the label, or, where no label stands there, waits for a change of the entity.
 pub fn decide_gate(
     state: &State,
     case: Case,

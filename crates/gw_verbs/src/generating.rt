@@ -9,7 +9,8 @@ use gw_meaning::{Change, Fate, Move, StatementId, Transaction};
 use gw_state::State;
 use gw_values::{arrival, for_none};
 
-// A transaction comes off its GENERATE, which makes the next one, if any.
+/// GENERATE: the transaction comes off it, and the next one is made, if any. X8 where it came from another block; else
+/// it stops as [`gw_values::arrival`] does.
 pub fn decide_generate(
     state: &State,
     case: Case,

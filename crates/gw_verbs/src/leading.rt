@@ -12,8 +12,8 @@ use gw_nums::Val;
 use gw_state::State;
 use gw_values::{value_there, value_traced};
 
-// A transaction goes on where a relation of two values holds. Else it goes to a block, or waits for a change of what
-// they read where no label stands there.
+/// TEST: the transaction goes on where the relation of two values holds. Else it goes to the block with the label, or,
+/// where no label stands there, waits for a change of what they read.
 pub fn decide_test(
     state: &State,
     case: Case,
@@ -93,7 +93,8 @@ pub fn pass_or_watch(id: StatementId, passes: bool, read: Vec<Watched>) -> Move
     Move::Watch { read }
 }
 
-// A transaction is sent to a block, or goes on to the next one.
+/// TRANSFER: the transaction goes to the block with a label, or on to the next one. A fraction draws from stream 1, and
+/// the far label is taken where what is drawn lies below it.
 pub fn decide_transfer(
     case: Case,
     notes: &mut Notes,

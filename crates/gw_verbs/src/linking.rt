@@ -14,7 +14,7 @@ use gw_names::Key;
 use gw_state::State;
 use gw_values::{key_of, units_of};
 
-// A transaction goes to the back or to the front of a user chain.
+/// LINK: the transaction goes to the back of a user chain by FIFO, to the front by LIFO.
 pub fn decide_link(
     state: &State,
     case: Case,
@@ -40,7 +40,8 @@ pub fn decide_link(
     }
 }
 
-// So many from the front of a user chain go to the block with the label.
+/// UNLINK: so many from the front of a user chain, or all, go to the block with the label, which is asked for only
+/// where somebody goes. X11 where the count is below 1.
 pub fn decide_unlink(
     state: &State,
     case: Case,

@@ -13,7 +13,8 @@ use gw_nums::{ArithmeticFault, Val};
 use gw_state::State;
 use gw_values::{key_of, value_there};
 
-// A parameter is set, or something is added to it or taken from it.
+/// ASSIGN: a parameter is set, or B is added to it or taken from it; an absent one counts as 0 then. X7 where what
+/// comes of it is no value.
 pub fn decide_assign(
     state: &State,
     case: Case,
@@ -34,7 +35,8 @@ pub fn decide_assign(
     assign_with(id, sign, key, was, value)
 }
 
-// A parameter loses 1, and the transaction goes to a block while it is not 0.
+/// LOOP: a parameter loses 1, and the transaction goes to the block with the label while it is not 0. X5 where it is
+/// absent, X7 where what is left is no value.
 pub fn decide_loop(
     state: &State,
     case: Case,

@@ -10,7 +10,7 @@ use gw_meaning::{Asker, Move, StatementId, TransactionChange};
 use gw_state::State;
 use gw_values::value_there;
 
-// A transaction gets another priority, and stays active.
+/// PRIORITY: the transaction gets another priority, and stays active.
 pub fn decide_priority(
     state: &State,
     case: Case,
@@ -26,7 +26,7 @@ pub fn decide_priority(
     Ok(enter_with(id, TransactionChange::Priority { to }))
 }
 
-// A transaction is marked with the clock.
+/// MARK: the transaction is marked with the absolute clock.
 pub fn decide_mark(id: StatementId) -> Result<Move, Halt>
     ensures { Comes (mark_prog id) result }
 {

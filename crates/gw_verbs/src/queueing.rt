@@ -12,7 +12,7 @@ use gw_names::Key;
 use gw_state::State;
 use gw_values::{key_of, units_of};
 
-// Units come to a queue.
+/// QUEUE: units come to a queue. X12 where its content or its entries would be above 1,000,000,000.
 pub fn decide_queue(
     state: &State,
     case: Case,
@@ -31,7 +31,8 @@ pub fn decide_queue(
     queue_units(id, key, line, u64::from(units))
 }
 
-// Units leave a queue.
+/// DEPART: units leave a queue, as zero entries where the transaction came in this tick. X4 where fewer are there, X12
+/// where the zero entries would be above 1,000,000,000.
 pub fn decide_depart(
     state: &State,
     case: Case,

@@ -13,7 +13,8 @@ use gw_nums::Val;
 use gw_state::State;
 use gw_values::{key_of, value_there};
 
-// A savevalue is set to the value of B, or that is added to it or taken from it.
+/// SAVEVALUE: a savevalue is set to the value of B, or that is added to it or taken from it. X7 where what comes of it
+/// is no value.
 pub fn decide_savevalue(
     state: &State,
     case: Case,

@@ -12,7 +12,7 @@ use gw_names::Key;
 use gw_state::State;
 use gw_values::key_of;
 
-// A facility is taken, or waited for where it is owned.
+/// SEIZE: a facility is taken, or waited for where it is owned, also by the transaction itself.
 pub fn decide_seize(
     state: &State,
     case: Case,
@@ -29,7 +29,7 @@ pub fn decide_seize(
     seize_or_wait(id, key, owned)
 }
 
-// Its owner gives a facility back, to the first that waits for it.
+/// RELEASE: the owner gives a facility back, to the first that waits for it. X2 where the transaction does not own it.
 pub fn decide_release(
     state: &State,
     case: Case,

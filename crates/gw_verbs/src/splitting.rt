@@ -12,8 +12,8 @@ use gw_nums::Val;
 use gw_state::State;
 use gw_values::{LIVE_LIMIT, value_there};
 
-// As many copies are made as the value of A says, where so many may live; they go to the block with the label, or on
-// from their own.
+/// SPLIT: as many copies are made as A says. They go to the block with the label, or on from their own. X11 where A is
+/// below 0, X9 where more than 100,000 transactions would live.
 pub fn decide_split(
     state: &State,
     case: Case,

@@ -15,7 +15,8 @@ use gw_names::{Key, StorageName};
 use gw_state::State;
 use gw_values::units_of;
 
-// Units of a storage come into use, or are waited for where they do not fit.
+/// ENTER: units of a storage come into use, whoever waits, or are waited for where they do not fit. X12 where the
+/// storage has fewer, or its entries would be above 1,000,000,000.
 pub fn decide_enter(
     state: &State,
     case: Case,
@@ -58,7 +59,8 @@ fn enter_defined(
     enter_storage(case, notes, id, name, storage, units, large)
 }
 
-// Units of a storage are given back, and those of its delay chain whose units fit are let in.
+/// LEAVE: units of a storage are given back, and those of its delay chain whose units fit by then are let in, from the
+/// front. X3 where fewer are in use, X12 where the entries would be above 1,000,000,000.
 pub fn decide_leave(
     state: &State,
     case: Case,

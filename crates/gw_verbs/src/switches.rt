@@ -10,7 +10,7 @@ use gw_meaning::{Asker, Auxiliary, Deed, Move, StatementId, Switching};
 use gw_state::State;
 use gw_values::key_of;
 
-// A switch is set, reset or inverted, as the operator says.
+/// LOGIC: a switch is set, reset or inverted, as the operator says.
 pub fn decide_logic(
     state: &State,
     case: Case,

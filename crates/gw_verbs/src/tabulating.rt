@@ -12,7 +12,7 @@ use gw_names::{Key, Name};
 use gw_state::State;
 use gw_values::value_there;
 
-// The argument of a table is evaluated, and its value comes to the table's others.
+/// TABULATE: the argument of a table is evaluated for the transaction, and its value comes to the table's others.
 pub fn decide_tabulate(
     state: &State,
     case: Case,
