@@ -92,7 +92,7 @@ fn of_parameter(
 }
 
 // The value of a parameter of the transaction that asks.
-pub fn parameter(state: &State, asker: &Asker, key: &Key) -> Result<Val, Halt>
+fn parameter(state: &State, asker: &Asker, key: &Key) -> Result<Val, Halt>
     ensures { Comes (parameter_value state.now asker.now key.now) result }
 {
     if !asker.is_transaction {
@@ -310,7 +310,7 @@ pub fn key_numbered(number: Val) -> Result<Key, Halt>
     Ok(Key::Num(number.magnitude() as u32))
 }
 
-// The same of a number that an attribute names.
+// The key of the entity whose number an attribute names, from 1.
 fn key_of_number(number: u32) -> Result<Key, Halt>
     ensures { Comes (subject_prog (subjects.Number number)) result }
 {
@@ -328,7 +328,7 @@ fn random(case: Case, notes: &mut Notes, of: &Subject) -> Result<Val, Halt>
     Ok(thousandth(number))
 }
 
-// The same random number as a part of a million.
+// A random number, as a part of a million, from the stream that an attribute is of.
 pub fn random_part(case: Case, notes: &mut Notes, of: &Subject) -> Result<Millionths, Halt>
     ensures { Decides case.entry.version.now case.entry.seed (random_part of.now) result notes.old notes.new }
 {

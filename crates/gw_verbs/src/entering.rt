@@ -14,7 +14,7 @@ pub fn pass(id: StatementId) -> Move
     enter_for(id, Fate::Active)
 }
 
-// The same, where this becomes of the transaction.
+// It is entered, and this becomes of the transaction.
 pub fn enter_for(id: StatementId, fate: Fate) -> Move
     ensures { result ≡ moves.Enter id changes.Nothing fate }
 {

@@ -39,7 +39,7 @@ pub fn decide_gate(
     }
 }
 
-// The same, of the storage or the entity that an operand names.
+// A GATE with this condition, of the storage or the entity that an operand names.
 fn gate_of(
     state: &State,
     case: Case,
@@ -63,7 +63,7 @@ fn gate_of(
     }
 }
 
-// The same, of a facility or a switch.
+// A GATE of a facility or a switch. Where it may wait, what is read to find the entity is kept.
 fn gate_other(
     state: &State,
     case: Case,
@@ -91,7 +91,7 @@ fn gate_other(
     }
 }
 
-// The same, of a storage: its capacity is asked for only where the condition hangs on it.
+// A GATE of a storage: its capacity is asked for only where the condition hangs on it.
 fn gate_storage(
     state: &State,
     case: Case,
@@ -121,7 +121,7 @@ fn gate_storage(
     )
 }
 
-// The same, of the storage with a key, which has so many units.
+// A GATE of the storage with a key, which has so many units.
 fn gate_at(
     state: &State,
     case: Case,

@@ -83,7 +83,7 @@ fn test_or_wait(
 }
 
 // The block is entered, or the transaction waits for a change of what was read.
-pub fn pass_or_watch(id: StatementId, passes: bool, read: Vec<Watched>) -> Move
+fn pass_or_watch(id: StatementId, passes: bool, read: Vec<Watched>) -> Move
     ensures { Comes (pass_or_wait id None read.items passes) (Ok result) }
 {
     if passes {

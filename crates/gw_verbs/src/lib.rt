@@ -1,7 +1,7 @@
 //! What the verb of each block decides: the move that comes of a transaction that tries the block.
 //!
-//! A verb is one function, in the order of its definition (specs/Step of gw_meaning): it asks, draws and tests, and gives
-//! the move or why none follows. It changes nothing but the notes.
+//! A verb has one public function, in the order of its definition (specs/Step of gw_meaning): it asks, draws and tests,
+//! and gives the move or why none follows. It changes nothing but the notes.
 #![tactic(auto)]
 
 mod entering;

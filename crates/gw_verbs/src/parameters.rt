@@ -1,4 +1,4 @@
-// ASSIGN and LOOP: what a block sets of a parameter; and the value of a parameter.
+// ASSIGN and LOOP: what a block sets of a parameter.
 ghost use Rattle.std.specs.Prelude.{◌≡◌, pos, option_copied};
 ghost use Rattle.gw_meaning.specs.Evaluation.{arithmetic};
 ghost use Rattle.gw_meaning.specs.Step.{by_sign, or_zero, assign_with, assign_prog, left_of, loop_back, loop_to, loop_with, loop_prog};

@@ -38,7 +38,7 @@ pub fn decide_enter(
     }
 }
 
-// The same, of the storage with this name: it is asked whether the empty storage holds the units, and then whether
+// An ENTER of the storage with this name: it is asked whether the empty storage holds the units, and then whether
 // they fit beside those in use.
 fn enter_defined(
     state: &State,
@@ -82,7 +82,7 @@ pub fn decide_leave(
     }
 }
 
-// The same, of the storage with this name.
+// A LEAVE of the storage with this name.
 fn leave_defined(
     state: &State,
     case: Case,
