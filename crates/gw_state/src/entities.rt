@@ -171,7 +171,7 @@ impl Entities {
         }
     }
 
-    // The same, of a queue: it is kept who came.
+    // What a deed makes of a queue; who came to it is kept.
     fn make_of_queue(
         &mut self,
         key: &Key,

@@ -39,7 +39,7 @@ impl State {
         Ok(())
     }
 
-    // The same, with the streams as they were.
+    // Makes a move and wakes, with the streams as they were.
     fn make_move(&mut self, alloc: Global, to: Move) -> Result<(), AllocError>
         requires { IsMade self.old to }
         ensures ok { OnOk result (self.new ≡ woken (written self.old to) (moved self.old to)) }
@@ -311,7 +311,7 @@ fn keep(
     }
 }
 
-// The same, where the transaction stays active.
+// Changes what is kept of entities and of transactions where the one that enters stays active.
 fn change_own(
     alloc: Global,
     change: &Change,

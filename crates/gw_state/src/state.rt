@@ -174,7 +174,7 @@ impl State {
         &self.retry
     }
 
-    /// The facilities, the queues and the storages, and who came to which queue while the clock stands as it does.
+    /// The entities of each kind, and who came to which queue while the clock stands as it does.
     pub fn entities(&self) -> &Entities
         ensures { entities_of result.now ≡ self.now.entities }
     {
