@@ -28,7 +28,8 @@ use std::alloc::{AllocError, Global};
 
 impl State {
     /// Makes a move that was decided, with the streams behind its draws, and wakes those who wait for something that it
-    /// writes. Where memory is refused, nothing changes.
+    /// writes. Where memory is refused, nothing changes. What each decided move is: a block that sends its transaction
+    /// away changes nothing else, and the clock moves on to the least time of the future chain.
     pub fn make(&mut self, alloc: Global, to: Move, streams: Streams) -> Result<(), AllocError>
         requires { IsMade self.old to }
         ensures ok { OnOk result (self.new ≡ decided self.old to streams) }
