@@ -1,6 +1,6 @@
 // The active transaction tries a block: it meets the one that it goes to, and what its verb decides comes of it.
 ghost use Rattle.std.specs.Prelude.{Some};
-ghost use Rattle.gw_meaning.specs.Step.{attempt_prog, try_prog, meet_prog};
+ghost use Rattle.gw_meaning.specs.Step.{attempt_prog, meet_prog};
 ghost use Rattle.gw_asking.specs.Deciding.{Decides};
 
 use gw_asking::{Case, Notes, ask_block, ask_next};
@@ -27,22 +27,7 @@ pub fn decide_attempt(
     ensures { Decides case.entry.version.now case.entry.seed (attempt_prog state.now x.now x.now.destination)
         result notes.old notes.new }
 {
-    let id = ask_next(case.version, notes, x)?;
-    decide_at(state, case, notes, x, id)
-}
-
-// It tries a block.
-fn decide_at(
-    state: &State,
-    case: Case,
-    notes: &mut Notes,
-    x: &Transaction,
-    id: Option<StatementId>,
-) -> Result<Move, Halt>
-    ensures { Decides case.entry.version.now case.entry.seed (try_prog state.now x.now id)
-        result notes.old notes.new }
-{
-    let Some(id) = id else {
+    let Some(id) = ask_next(case.version, notes, x)? else {
         return Err(Halt::stop(Stop::NoNextBlock));
     };
     match ask_block(case.version, notes, id)? {

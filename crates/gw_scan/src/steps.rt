@@ -76,23 +76,6 @@ fn act(state: &mut State, case: Case, notes: &mut Notes) -> Result<(), Halt>
     Ok(())
 }
 
-// The end that the next step comes to, or `None` where it is made.
-fn next_end(state: &State, case: Case) -> Result<Option<End>, AllocError>
-    ensures { IfOk result (EndsAs (step case.entry.version.now case.entry.seed state.now)) }
-{
-    let mut notes = Notes::new(case.alloc, state.streams());
-    let decided = decide(state, case, &mut notes);
-    drop(notes);
-    match decided {
-        Ok(to) => {
-            drop(to);
-            Ok(None)
-        }
-        Err(Halt::End(end)) => Ok(Some(end)),
-        Err(Halt::Memory) => Err(AllocError),
-    }
-}
-
 /// The end that a step would come to here, or `None` where the run goes on: no move is made.
 pub fn end_at(
     alloc: Global,
@@ -107,5 +90,15 @@ pub fn end_at(
         version,
         seed,
     };
-    next_end(state, case)
+    let mut notes = Notes::new(alloc, state.streams());
+    let decided = decide(state, case, &mut notes);
+    drop(notes);
+    match decided {
+        Ok(to) => {
+            drop(to);
+            Ok(None)
+        }
+        Err(Halt::End(end)) => Ok(Some(end)),
+        Err(Halt::Memory) => Err(AllocError),
+    }
 }

@@ -10,7 +10,10 @@ use Rattle.gw_meaning.specs.declared.transaction_change.TransactionChange.{Trans
 use Rattle.gw_meaning.specs.declared.transaction_change.TransactionChange.TheVariants as own
 use Rattle.gw_meaning.specs.declared.watched.Watched.{Watched}
 use Rattle.gw_entities.specs.Parameters.{Held, values_at, inherited, all_inherited}
-use Rattle.gw_state.specs.Making.{IsAlone, active_behind, given, linked_by}
+use Rattle.gw_meaning.specs.Watching.{Waiter}
+use Rattle.gw_state.specs.declared.parts.Parts.{Parts}
+use Rattle.gw_state.specs.Making.{IsAlone, active_behind, given, kept_by, linked_by}
+use Rattle.gw_state.specs.States.{machine_of}
 use Rattle.gw_meaning.specs.Machine.{Machine, UserChain, delay_at, user_chain_at}
 use Rattle.gw_meaning.specs.Changes.{own_marked, marked, fated, let_in, one_let_in, some_let_in, deed_shares, all_copied, one_copied, some_unlinked, one_unlinked, changed, entering, woken, crossing, written_by, written_in, written_where, with_active}
 
@@ -30,27 +33,33 @@ number_kept (changes.Split count to) clock x = refl
 number_kept (changes.Unlink key count to) clock x = refl
 number_kept (changes.Entity change) clock x = refl
 
--- who waits for a change of something
-fated_keeps : (fate : Fate) (x : Transaction) (s : Machine) → (fated fate x s).retry ≡ s.retry
-fated_keeps fates.Active x s = refl
-fated_keeps fates.Current x s = refl
-fated_keeps (fates.Delayed until) x s = refl
-fated_keeps (fates.Linked key discipline) x s = refl
-fated_keeps (fates.Destroyed count) x s = refl
+-- what the chains and the counts do not tell: who waits for a change of something, and the parameters
+abbrev Aside : Type 0
+Aside = List Waiter × Held
 
-let_in_keeps : (x : Transaction) (to : Option ℕ) (s : Machine) → (let_in x to s).retry ≡ s.retry
+abbrev aside : Machine → Aside
+aside s = (s.retry, s.parameters)
+
+let_in_keeps : (x : Transaction) (to : Option ℕ) (s : Machine) → aside (let_in x to s) ≡ aside s
 let_in_keeps x None s = refl
 let_in_keeps x (Some id) s = refl
 
 some_let_in_keeps :
     (key : Key) (shares : List (Option ℕ)) (passed chain : List Transaction) (s : Machine) →
-    (some_let_in key shares passed chain s).retry ≡ s.retry
+    aside (some_let_in key shares passed chain s) ≡ aside s
 some_let_in_keeps key [] passed chain s = refl
 some_let_in_keeps key (share ∷ shares) passed [] s = refl
 some_let_in_keeps key (None ∷ shares) passed (x ∷ xs) s = some_let_in_keeps key shares (passed ++ x ∷ []) xs s
 some_let_in_keeps key (Some units ∷ shares) passed (x ∷ xs) s =
     some_let_in_keeps key shares passed xs (one_let_in key x (passed ++ xs) s) ∙ let_in_keeps x x.destination _
 
+some_unlinked_keep : (count : ℕ) (key : Key) (to : Option ℕ) (chain : List Transaction) (s : Machine) →
+    aside (some_unlinked count key to chain s) ≡ aside s
+some_unlinked_keep zero key to chain s = refl
+some_unlinked_keep (suc n) key to [] s = refl
+some_unlinked_keep (suc n) key to (x ∷ xs) s = some_unlinked_keep n key to xs (one_unlinked key to x xs s)
+
+-- who waits for a change of something stays where a block is entered
 all_copied_keep : (count : ℕ) (to : Option ℕ) (x : Transaction) (values : List (Key × ℤ)) (s : Machine) →
     (all_copied count to x values s).retry ≡ s.retry
 all_copied_keep zero to x values s = refl
@@ -61,21 +70,22 @@ copied_keeps : (count : ℕ) (to : Option ℕ) (active : Option Transaction) (s 
 copied_keeps count to None s = refl
 copied_keeps count to (Some x) s = all_copied_keep count to x (values_at s.parameters x.number) s
 
-some_unlinked_keep : (count : ℕ) (key : Key) (to : Option ℕ) (chain : List Transaction) (s : Machine) →
-    (some_unlinked count key to chain s).retry ≡ s.retry
-some_unlinked_keep zero key to chain s = refl
-some_unlinked_keep (suc n) key to [] s = refl
-some_unlinked_keep (suc n) key to (x ∷ xs) s = some_unlinked_keep n key to xs (one_unlinked key to x xs s)
-
 changed_keeps : (change : Change) (s : Machine) → (changed change s).retry ≡ s.retry
 changed_keeps changes.Nothing s = refl
 changed_keeps (changes.Generate next) s = refl
 changed_keeps (changes.Transaction change) s = refl
 changed_keeps (changes.Split count to) s = copied_keeps count to s.active s
 changed_keeps (changes.Unlink key count to) s =
-    some_unlinked_keep count key to (user_chain_at s.linked key).members s
+    ap (λ (a : Aside). a.0) (some_unlinked_keep count key to (user_chain_at s.linked key).members s)
 changed_keeps (changes.Entity change) s =
-    some_let_in_keeps change.0 (deed_shares change.1) [] (delay_at s.delays change.0) s
+    ap (λ (a : Aside). a.0) (some_let_in_keeps change.0 (deed_shares change.1) [] (delay_at s.delays change.0) s)
+
+fated_keeps : (fate : Fate) (x : Transaction) (s : Machine) → (fated fate x s).retry ≡ s.retry
+fated_keeps fates.Active x s = refl
+fated_keeps fates.Current x s = refl
+fated_keeps (fates.Delayed until) x s = refl
+fated_keeps (fates.Linked key discipline) x s = refl
+fated_keeps (fates.Destroyed count) x s = refl
 
 pub retry_kept :
     (s : Machine) (x : Transaction) (id : ℕ) (change : Change) (fate : Fate) →
@@ -100,6 +110,67 @@ pub copied_beside :
     record (all_copied count to x [] s) { parameters = all_inherited count values s.next held }
 copied_beside zero to x values s held = refl
 copied_beside (suc n) to x values s held = copied_beside n to x values (one_copied to x [] s) (inherited values s.next held)
+
+-- the copies of the active transaction, but for their parameters
+pub split_is : (count : ℕ) (to : Option ℕ) (x : Transaction) (s : Machine) → s.active ≡ Some x →
+    record (all_copied count to x [] s) { parameters = s.parameters } ≡
+    record (changed (changes.Split count to) s) { parameters = s.parameters }
+split_is count to x s active =
+    let values : Transaction → List (Key × ℤ) = λ y. values_at s.parameters y.number in
+    ap (λ (m : Machine). record m { parameters = s.parameters }) (sym (copied_beside count to x (values x) s s.parameters))
+    ∙ ap (λ a. record (with_active a (λ y. all_copied count to y (values y) s) s) { parameters = s.parameters }) (sym active)
+
+-- the parameters stay where they stand apart
+pub apart : (p q : Parts) (v : Machine) → machine_of p ≡ v → p.parameters ≡ q.parameters →
+    machine_of p ≡ record v { parameters = q.parameters }
+apart p q v is kept =
+    (λ i. record (machine_of p) { parameters = kept i }) ∙ ap (λ (m : Machine). record m { parameters = q.parameters }) is
+
+-- the parameters of the copies are given before the copies are made
+pub brought_is : (change : Change) (v : Machine) →
+    record (changed change (record v { parameters = given change v.active v.next v.parameters })) {
+      parameters = given change v.active v.next v.parameters;
+    } ≡ changed change v
+brought_is changes.Nothing v = refl
+brought_is (changes.Generate next) v = refl
+brought_is (changes.Transaction change) v = refl
+brought_is (changes.Split count to) v = go v.active where
+  go : (active : Option Transaction) →
+      record (changed (changes.Split count to) (record v {
+        active = active;
+        parameters = given (changes.Split count to) active v.next v.parameters;
+      })) { parameters = given (changes.Split count to) active v.next v.parameters } ≡
+      changed (changes.Split count to) (record v { active = active })
+  go None = refl
+  go (Some x) =
+      let s : Machine = record v { active = Some x } in
+      let values = values_at v.parameters x.number in
+      let held = all_inherited count values v.next v.parameters in
+      ap (λ (m : Machine). record m { parameters = held }) (copied_beside count to x (values_at held x.number) s held)
+      ∙ sym (copied_beside count to x values s v.parameters)
+brought_is (changes.Unlink key count to) v =
+    ap (λ (a : Aside). record (changed (changes.Unlink key count to) v) { parameters = a.1 })
+    (sym (some_unlinked_keep count key to (user_chain_at v.linked key).members v))
+brought_is (changes.Entity change) v =
+    ap (λ (a : Aside). record (changed (changes.Entity change) v) { parameters = a.1 })
+    (sym (some_let_in_keeps change.0 (deed_shares change.1) [] (delay_at v.delays change.0) v))
+
+-- what becomes of a transaction, where its user chain and the parameters are kept before
+pub settled_is : (change : Change) (fate : Fate) (y : Transaction) (s : Machine) →
+    record (fated fate y (record s {
+      linked = linked_by fate y s.linked;
+      parameters = given change (active_behind fate y) s.next (kept_by fate y.number s.parameters);
+    })) {
+      linked = linked_by fate y s.linked;
+      parameters = given change (active_behind fate y) s.next (kept_by fate y.number s.parameters);
+    } ≡ record (fated fate y s) {
+      parameters = given change (fated fate y s).active (fated fate y s).next (fated fate y s).parameters;
+    }
+settled_is change fates.Active y s = refl
+settled_is change fates.Current y s = refl
+settled_is change (fates.Delayed until) y s = refl
+settled_is change (fates.Linked key discipline) y s = refl
+settled_is change (fates.Destroyed count) y s = refl
 
 -- the parameters that copies get go by the number of the transaction alone
 pub given_same :

@@ -6,3 +6,4 @@ pub mod Admitting
 pub mod Copies
 pub mod Making
 pub mod Parts
+pub mod States

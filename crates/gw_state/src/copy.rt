@@ -1,10 +1,11 @@
-// A copy of a state, made of copies of its parts. The parts that own memory are copied in two groups: what is proved of
+// A copy of the parts of a state. The parts that own memory are copied in two groups: what is proved of
 // a function grows fast with the exits at which it lets go of copies.
 ghost use Rattle.std.specs.Prelude.{◌≡◌, IfOk};
 ghost use Rattle.gw_state.specs.Copies.{ChainsOf, KeptOf};
+ghost use Rattle.gw_state.specs.States.{machine_of};
 
 use crate::entities::Entities;
-use crate::state::State;
+use crate::parts::Parts;
 use gw_chains::{Counts, DelayChains, FutureChain, PriorityChain, UserChains};
 use gw_entities::Parameters;
 use gw_retry::Retry;
@@ -28,11 +29,11 @@ pub struct Kept {
     pub entities: Entities,
 }
 
-impl State {
-    /// Makes copies of it cheap: from now on they share what did not change of its chains, its entities and its
-    /// parameters. The state is the same behind it, also where memory is refused.
+impl Parts {
+    // Makes copies of them cheap: from now on they share what did not change of the chains, the entities and the
+    // parameters. The state is the same behind it, also where memory is refused.
     pub fn share(&mut self) -> Result<(), AllocError>
-        ensures { self.new ≡ self.old }
+        ensures { machine_of self.new ≡ machine_of self.old }
     {
         self.current.share()?;
         self.delays.share()?;
@@ -43,13 +44,13 @@ impl State {
         self.parameters.share()
     }
 
-    /// An equal state.
-    pub fn copy(&self) -> Result<State, AllocError>
-        ensures { IfOk result (λ s. s ≡ self.now) }
+    // Those of an equal state.
+    pub fn copy(&self) -> Result<Parts, AllocError>
+        ensures { IfOk result (λ p. machine_of p ≡ machine_of self.now) }
     {
         let chains = self.copy_chains()?;
         let kept = self.copy_kept()?;
-        Ok(State {
+        Ok(Parts {
             clocks: self.clocks,
             progress: self.progress,
             streams: self.streams,
@@ -67,7 +68,7 @@ impl State {
     }
 
     fn copy_chains(&self) -> Result<Chains, AllocError>
-        ensures { IfOk result (ChainsOf self.now) }
+        ensures { IfOk result (ChainsOf (machine_of self.now)) }
     {
         let current = self.current.copy()?;
         let future = self.future.copy()?;
@@ -83,7 +84,7 @@ impl State {
     }
 
     fn copy_kept(&self) -> Result<Kept, AllocError>
-        ensures { IfOk result (KeptOf self.now) }
+        ensures { IfOk result (KeptOf (machine_of self.now)) }
     {
         let counts = self.counts.copy()?;
         let parameters = self.parameters.copy()?;

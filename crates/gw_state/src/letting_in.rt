@@ -5,100 +5,144 @@ ghost use Rattle.gw_meaning.specs.Machine.{Machine, delay_at};
 ghost use Rattle.gw_meaning.specs.Changes.{some_let_in, admitted};
 ghost use Rattle.gw_chains.specs.Chains.{delays_of, room_of, first_of, with_share, IsWithin, AreWithin, HasRoomToLetIn, HasRoomToLetAllIn};
 ghost use Rattle.gw_state.specs.Admitting.{HasRoomToAdmit, going};
+ghost use Rattle.gw_state.specs.States.{machine_of};
 
-use gw_chains::{Counts, DelayChains, PriorityChain, has_share, let_in};
+use crate::parts::Parts;
+use gw_chains::{Counts, PriorityChain, has_share, let_in};
 use gw_meaning::{Deed, FacilityDeed, StorageDeed, Transaction};
 use gw_names::Key;
 use std::alloc::AllocError;
 
-/// Makes room to let in those of the delay chain of a key whom a deed lets in. Room for so many others stays on the
-/// current chain. Nobody moves.
-///
-/// # Errors
-///
-/// Where memory is refused.
-pub fn reserve_to_admit(
-    delays: &mut DelayChains,
-    current: &mut PriorityChain,
-    counts: &mut Counts,
-    key: &Key,
-    deed: &Deed,
-    others: usize,
-) -> Result<(), AllocError>
-    ensures ok { OnOk result (HasRoomToAdmit key.now deed.now delays.new (current.new.room - others) counts.new.limit) }
-    ensures others { OnOk result (others ≤ current.new.room) }
-    ensures delays { delays_of delays.new ≡ delays_of delays.old }
-    ensures current { current.new.items ≡ current.old.items }
-    ensures counts { counts.new.entries ≡ counts.old.entries }
-    ensures limit { counts.old.limit ≤ counts.new.limit }
-{
-    match deed {
-        Deed::Facility(FacilityDeed::Release { .. }) => {
-            reserve_first(delays, current, counts, key, others)
+impl Parts {
+    // Makes room to let in those of the delay chain of a key whom a deed lets in. Room for so many others stays on the
+    // current chain. Nobody moves.
+    pub fn reserve_to_admit(
+        &mut self,
+        key: &Key,
+        deed: &Deed,
+        others: usize,
+    ) -> Result<(), AllocError>
+        ensures ok { OnOk result (HasRoomToAdmit key.now deed.now self.new.delays (self.new.current.room - others)
+            self.new.counts.limit) }
+        ensures others { OnOk result (others ≤ self.new.current.room) }
+        ensures limit { self.old.counts.limit ≤ self.new.counts.limit }
+        ensures same { machine_of self.new ≡ machine_of self.old }
+        ensures rest { self.new ≡ record self.old {
+          current = self.new.current;
+          delays = self.new.delays;
+          counts = self.new.counts;
+        } }
+    {
+        match deed {
+            Deed::Facility(FacilityDeed::Release { .. }) => self.reserve_first(key, others),
+            Deed::Storage(StorageDeed::Leave { shares, .. }) => {
+                self.reserve_some(key, shares.as_slice(), others)
+            }
+            _ => self.current.reserve(others),
         }
-        Deed::Storage(StorageDeed::Leave { shares, .. }) => {
-            reserve_some(delays, current, counts, key, shares.as_slice(), others)
+    }
+
+    // Room to let in the first of the delay chain of a facility.
+    fn reserve_first(&mut self, key: &Key, others: usize) -> Result<(), AllocError>
+        ensures ok { OnOk result (HasRoomToLetIn (first_of (delay_at (delays_of self.new.delays) key.now))
+            (self.new.current.room - others) self.new.counts.limit) }
+        ensures others { OnOk result (others < self.new.current.room) }
+        ensures limit { self.old.counts.limit ≤ self.new.counts.limit }
+        ensures same { machine_of self.new ≡ machine_of self.old }
+        ensures rest { self.new ≡ record self.old { current = self.new.current; counts = self.new.counts } }
+    {
+        let Some(all) = others.checked_add(1) else {
+            return Err(AllocError);
+        };
+        self.current.reserve(all)?;
+        let place = self.delays.waiting_place(key);
+        match self.delays.first_at(key, place) {
+            Some(x) => reserve_block(x, &mut self.counts),
+            None => Ok(()),
         }
-        _ => current.reserve(others),
     }
-}
 
-// Room to let in the first of the delay chain of a facility.
-fn reserve_first(
-    delays: &DelayChains,
-    current: &mut PriorityChain,
-    counts: &mut Counts,
-    key: &Key,
-    others: usize,
-) -> Result<(), AllocError>
-    ensures ok { OnOk result (HasRoomToLetIn (first_of (delay_at (delays_of delays.now) key.now))
-        (current.new.room - others) counts.new.limit) }
-    ensures others { OnOk result (others < current.new.room) }
-    ensures current { current.new.items ≡ current.old.items }
-    ensures counts { counts.new.entries ≡ counts.old.entries }
-    ensures limit { counts.old.limit ≤ counts.new.limit }
-{
-    let Some(all) = others.checked_add(1) else {
-        return Err(AllocError);
-    };
-    current.reserve(all)?;
-    let place = delays.waiting_place(key);
-    match delays.first_at(key, place) {
-        Some(x) => reserve_block(x, counts),
-        None => Ok(()),
+    // Room to let in those of the delay chain of a storage who have a share. The chain stays as it is.
+    fn reserve_some(
+        &mut self,
+        key: &Key,
+        shares: &[Option<u64>],
+        others: usize,
+    ) -> Result<(), AllocError>
+        ensures ok { OnOk result (HasRoomToLetAllIn
+            (with_share shares.now (delay_at (delays_of self.old.delays) key.now))
+            (self.new.current.room - others) self.new.counts.limit) }
+        ensures going { OnOk result (length (with_share shares.now (delay_at (delays_of self.old.delays) key.now)) ≤
+            room_of (value_of self.new.delays key.now)) }
+        ensures others { OnOk result (others ≤ self.new.current.room) }
+        ensures limit { self.old.counts.limit ≤ self.new.counts.limit }
+        ensures same { machine_of self.new ≡ machine_of self.old }
+        ensures rest { self.new ≡ record self.old {
+          current = self.new.current;
+          delays = self.new.delays;
+          counts = self.new.counts;
+        } }
+    {
+        let place = self.delays.waiting_place(key);
+        let Some(chain) = self.delays.chain_at(key, place) else {
+            self.current.reserve(others)?;
+            return Ok(());
+        };
+        let count = reserve_blocks(chain, shares, &mut self.counts)?;
+        let Some(all) = count.checked_add(others) else {
+            return Err(AllocError);
+        };
+        self.current.reserve(all)?;
+        self.delays.reserve_at(key, place, count)
     }
-}
 
-// Room to let in those of the delay chain of a storage who have a share. The chain stays as it is.
-fn reserve_some(
-    delays: &mut DelayChains,
-    current: &mut PriorityChain,
-    counts: &mut Counts,
-    key: &Key,
-    shares: &[Option<u64>],
-    others: usize,
-) -> Result<(), AllocError>
-    ensures ok { OnOk result (HasRoomToLetAllIn (with_share shares.now (delay_at (delays_of delays.old) key.now))
-        (current.new.room - others) counts.new.limit) }
-    ensures going { OnOk result (length (with_share shares.now (delay_at (delays_of delays.old) key.now)) ≤
-        room_of (value_of delays.new key.now)) }
-    ensures others { OnOk result (others ≤ current.new.room) }
-    ensures delays { delays_of delays.new ≡ delays_of delays.old }
-    ensures current { current.new.items ≡ current.old.items }
-    ensures counts { counts.new.entries ≡ counts.old.entries }
-    ensures limit { counts.old.limit ≤ counts.new.limit }
-{
-    let place = delays.waiting_place(key);
-    let Some(chain) = delays.chain_at(key, place) else {
-        current.reserve(others)?;
-        return Ok(());
-    };
-    let count = reserve_blocks(chain, shares, counts)?;
-    let Some(all) = count.checked_add(others) else {
-        return Err(AllocError);
-    };
-    current.reserve(all)?;
-    delays.reserve_at(key, place, count)
+    // Those of the delay chain of a key whom a deed lets in go to the current chain, one by one from the front: of a
+    // facility the first, of a storage each with a share.
+    pub fn admit(&mut self, key: &Key, deed: &Deed)
+        requires { HasRoomToAdmit key.now deed.now self.old.delays self.old.current.room self.old.counts.limit }
+        ensures admitted { machine_of self.new ≡ admitted key.now deed.now (machine_of self.old) }
+        ensures room { self.old.current.room ≤ self.new.current.room + length (going key.now deed.now self.old.delays) }
+        ensures rest { self.new ≡ record self.old {
+          current = self.new.current;
+          delays = self.new.delays;
+          counts = self.new.counts;
+        } }
+    {
+        match deed {
+            Deed::Facility(FacilityDeed::Release { .. }) => self.admit_first(key),
+            Deed::Storage(StorageDeed::Leave { shares, .. }) => {
+                let place = self.delays.waiting_place(key);
+                self.delays.let_in_some_at(
+                    key,
+                    place,
+                    shares.as_slice(),
+                    &mut self.current,
+                    &mut self.counts,
+                );
+            }
+            _ => (),
+        }
+    }
+
+    // The first of the delay chain of a facility is let in, where somebody waits.
+    fn admit_first(&mut self, key: &Key)
+        requires { HasRoomToLetIn (first_of (delay_at (delays_of self.old.delays) key.now))
+            self.old.current.room self.old.counts.limit }
+        ensures admitted { machine_of self.new ≡ some_let_in key.now (Some 1 ∷ []) []
+            (delay_at (delays_of self.old.delays) key.now) (machine_of self.old) }
+        ensures room { self.old.current.room ≤ self.new.current.room +
+            length (with_share (Some 1 ∷ []) (delay_at (delays_of self.old.delays) key.now)) }
+        ensures rest { self.new ≡ record self.old {
+          current = self.new.current;
+          delays = self.new.delays;
+          counts = self.new.counts;
+        } }
+    {
+        let place = self.delays.waiting_place(key);
+        if let Some(x) = self.delays.take_first_at(key, place) {
+            let_in(&mut self.current, &mut self.counts, x);
+        }
+    }
 }
 
 // Makes room for the counts of the blocks at which those with a share wait. Returns how many they are.
@@ -134,60 +178,5 @@ fn reserve_block(x: &Transaction, counts: &mut Counts) -> Result<(), AllocError>
     match x.destination.id() {
         Some(id) => counts.reserve(id),
         None => Ok(()),
-    }
-}
-
-/// Those of the delay chain of a key whom a deed lets in go to the current chain, one by one from the front: of a
-/// facility the first, of a storage each with a share.
-pub fn admit(
-    delays: &mut DelayChains,
-    current: &mut PriorityChain,
-    counts: &mut Counts,
-    key: &Key,
-    deed: &Deed,
-)
-    requires { HasRoomToAdmit key.now deed.now delays.old current.old.room counts.old.limit }
-    ensures admitted { (s : Machine) →
-        record s { delays = delays_of delays.new; current = current.new.items; counts = counts.new.entries } ≡
-        admitted key.now deed.now (record s {
-          delays = delays_of delays.old;
-          current = current.old.items;
-          counts = counts.old.entries;
-        }) }
-    ensures room { current.old.room ≤ current.new.room + length (going key.now deed.now delays.old) }
-{
-    match deed {
-        Deed::Facility(FacilityDeed::Release { .. }) => {
-            let_first_in(delays, current, counts, key);
-        }
-        Deed::Storage(StorageDeed::Leave { shares, .. }) => {
-            let place = delays.waiting_place(key);
-            delays.let_in_some_at(key, place, shares.as_slice(), current, counts);
-        }
-        _ => (),
-    }
-}
-
-// The first of the delay chain of a facility is let in, where somebody waits.
-fn let_first_in(
-    delays: &mut DelayChains,
-    current: &mut PriorityChain,
-    counts: &mut Counts,
-    key: &Key,
-)
-    requires { HasRoomToLetIn (first_of (delay_at (delays_of delays.old) key.now)) current.old.room counts.old.limit }
-    ensures let_in { (s : Machine) →
-        record s { delays = delays_of delays.new; current = current.new.items; counts = counts.new.entries } ≡
-        some_let_in key.now (Some 1 ∷ []) [] (delay_at (delays_of delays.old) key.now) (record s {
-          delays = delays_of delays.old;
-          current = current.old.items;
-          counts = counts.old.entries;
-        }) }
-    ensures room { current.old.room ≤ current.new.room +
-        length (with_share (Some 1 ∷ []) (delay_at (delays_of delays.old) key.now)) }
-{
-    let place = delays.waiting_place(key);
-    if let Some(x) = delays.take_first_at(key, place) {
-        let_in(current, counts, x);
     }
 }

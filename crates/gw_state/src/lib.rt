@@ -7,10 +7,12 @@
 mod clocks;
 mod copy;
 mod deeds;
+mod entering;
 mod entities;
 mod letting_in;
 mod make;
 mod newcomers;
+mod parts;
 mod progress;
 mod state;
 mod waking;

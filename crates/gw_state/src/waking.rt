@@ -4,8 +4,9 @@ ghost use Rattle.gw_chains.specs.Chains.{items_of};
 ghost use Rattle.gw_meaning.specs.Changes.{crossing, crossings, deed_shares, written_by, written_in, woken};
 ghost use Rattle.gw_meaning.specs.Machine.{Machine};
 ghost use Rattle.gw_meaning.specs.Watching.{kind_of};
+ghost use Rattle.gw_state.specs.States.{machine_of};
 
-use crate::state::State;
+use crate::parts::Parts;
 use gw_chains::{PriorityChain, has_share};
 use gw_meaning::{
     Change, Deed, EntityChange, EntityKind, FacilityDeed, Fate, StatementId, StorageDeed,
@@ -13,9 +14,9 @@ use gw_meaning::{
 };
 use std::alloc::{AllocError, Global};
 
-impl State {
+impl Parts {
     // What is written where the active transaction enters a block; nothing where nobody waits for a change.
-    pub(crate) fn to_wake(
+    pub fn to_wake(
         &self,
         alloc: Global,
         x: &Transaction,
@@ -23,8 +24,8 @@ impl State {
         change: &Change,
         fate: &Fate,
     ) -> Result<Vec<Watched>, AllocError>
-        ensures { IfOk result (λ list. (s : Machine) → s.retry ≡ self.now.retry → woken list.items s ≡
-            woken (crossing x.now (Some id) ++ (written_by change.now self.now ++ written_in fate.now)) s) }
+        ensures { IfOk result (λ list. (s : Machine) → s.retry ≡ self.now.retry.waiters → woken list.items s ≡
+            woken (crossing x.now (Some id) ++ (written_by change.now (machine_of self.now) ++ written_in fate.now)) s) }
     {
         if self.retry.is_empty() {
             return Ok(Vec::new(alloc));
@@ -45,7 +46,7 @@ impl State {
         change: &Change,
     ) -> Result<Vec<Watched>, AllocError>
         ensures { IfOk result (λ list.
-            list.items ≡ crossing x.now (Some id) ++ written_by change.now self.now) }
+            list.items ≡ crossing x.now (Some id) ++ written_by change.now (machine_of self.now)) }
     {
         let mut written = Vec::new(alloc);
         push_crossing(&mut written, x, Some(id))?;

@@ -14,7 +14,7 @@ use Rattle.gw_meaning.specs.Machine.{Machine}
 use Rattle.gw_meaning.specs.Watching.{with_all_watched}
 use Rattle.gw_asking.specs.Deciding.{Decides}
 use Rattle.gw_asking.specs.Noted.{Noted}
-use Rattle.gw_values.specs.Seeing.{Replied}
+use Rattle.gw_values.specs.Seeing.{Replied, IsStill}
 use Rattle.gw_values.specs.declared.traced.Traced.{Traced}
 
 -- the value of an attribute, and what it reads behind what was read before
@@ -39,15 +39,13 @@ TracedReplied t seed s q (AttributeOf class of) old result new =
     Decides t seed (attribute_traced s q old.1 class of) (with_read result new.1) old.0 new.0
 TracedReplied t seed s q question old result new = Replied t seed s q question old.0 result new.0 × (new.1 ≡ old.1)
 
--- the state, who asks, the version and the seed, and where it is noted and kept what was read, are the same
+-- what is seen, and where it is kept what was read, are the same
 abbrev pub IsTracedStill : Traced → Traced → Type 0
-IsTracedStill old new =
-    (new.state ≡ old.state) × (new.asker ≡ old.asker) × (new.case ≡ old.case)
-    × (new.notes.ghost_name ≡ old.notes.ghost_name) × (new.read.ghost_name ≡ old.read.ghost_name)
+IsTracedStill old new = IsStill old.seen new.seen × (new.read.ghost_name ≡ old.read.ghost_name)
 
 -- what a question is replied to, of what is seen
 abbrev pub TracedReplies : (question : Question) → Traced → Result (Reply question) Halt → Traced → Type 0
 TracedReplies question old result new =
-    TracedReplied old.case.version.now old.case.seed old.state.now old.asker.now question
-    (old.notes.now, old.read.now.items) result (new.notes.now, new.read.now.items)
+    TracedReplied old.seen.case.version.now old.seen.case.seed old.seen.state.now old.seen.asker.now question
+    (old.seen.notes.now, old.read.now.items) result (new.seen.notes.now, new.read.now.items)
     × IsTracedStill old new

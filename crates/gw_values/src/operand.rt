@@ -164,13 +164,13 @@ fn evaluation_traced(
         (traced state.now asker.now read.old.items (value_of operand.now))
         (with_read result read.new.items) notes.old notes.new }
 {
-    let mut traced = Traced {
+    let seen = Seen {
         state,
         asker,
         case,
         notes,
-        read,
     };
+    let mut traced = Traced { seen, read };
     eval(operand, case.version, &mut traced)
 }
 

@@ -6,22 +6,19 @@ ghost use Rattle.gw_meaning.specs.Watching.{is_watched, with_watched, with_all_w
 ghost use Rattle.gw_asking.specs.Deciding.{Decides};
 ghost use Rattle.gw_values.specs.Tracing.{IsTracedStill, TracedReplies, attribute_traced, listed, with_read};
 
-use crate::attributes::{attribute, random_part, subject};
-use gw_asking::{Case, Notes, ask_label, ask_number};
+use crate::attributes::subject;
+use crate::seen::Seen;
+use gw_asking::{Case, Notes, ask_label};
 use gw_expr::{Halt, Sna, Subject, World};
-use gw_meaning::{Asked, Asker, EntityKind, StatementId, Watched};
+use gw_meaning::{EntityKind, StatementId, Watched};
 use gw_names::{Class, Key, Name};
 use gw_nums::{Millionths, Val};
-use gw_state::State;
 use std::alloc::AllocError;
 
-// As `Seen`, with the list of what was read, each thing once.
+// What is seen, with the list of what was read of it, each thing once.
 #[derive(Drop)]
 pub struct Traced<'a> {
-    pub state: &'a State,
-    pub asker: &'a Asker,
-    pub case: Case<'a>,
-    pub notes: &'a mut Notes,
+    pub seen: Seen<'a>,
     pub read: &'a mut Vec<Watched>,
 }
 
@@ -29,7 +26,7 @@ impl<'a> World for Traced<'a> {
     ghost replies = { TracedReplies };
 
     fn number(&mut self, name: &Name) -> Result<Option<Val>, Halt> {
-        Ok(ask_number(self.case.version, self.notes, name)?)
+        self.seen.number(name)
     }
 
     fn attribute(&mut self, sna: Sna<'_>) -> Result<Val, Halt> {
@@ -37,33 +34,30 @@ impl<'a> World for Traced<'a> {
     }
 
     fn part(&mut self, of: &Subject) -> Result<Millionths, Halt> {
-        random_part(self.case, self.notes, of)
+        self.seen.part(of)
     }
 
     fn note_variable(&mut self, name: &Name) -> Result<(), Halt> {
-        self.notes.note_asked(Asked::Variable, name)?;
-        Ok(())
+        self.seen.note_variable(name)
     }
 
     fn note_function(&mut self, name: &Name) -> Result<(), Halt> {
-        self.notes.note_asked(Asked::Function, name)?;
-        Ok(())
+        self.seen.note_function(name)
     }
 }
 
 impl Traced<'_> {
     // The value of an attribute, with what it reads.
     fn of_attribute(&mut self, sna: Sna<'_>) -> Result<Val, Halt>
-        ensures decided { Decides self.old.case.version.now self.old.case.seed
-            (attribute_traced self.old.state.now self.old.asker.now self.old.read.now.items
+        ensures decided { Decides self.old.seen.case.version.now self.old.seen.case.seed
+            (attribute_traced self.old.seen.state.now self.old.seen.asker.now self.old.read.now.items
             sna.entry.class sna.entry.of.now) (with_read result self.new.read.now.items)
-            self.old.notes.now self.new.notes.now }
+            self.old.seen.notes.now self.new.seen.notes.now }
         ensures same { IsTracedStill self.old self.new }
     {
-        let thing = watched(self.case, self.notes, sna.class, sna.of)?;
-        let value = attribute(
-            self.state, self.case, self.asker, self.notes, sna.class, sna.of,
-        )?;
+        let seen = &mut self.seen;
+        let thing = watched(seen.case, seen.notes, sna.class, sna.of)?;
+        let value = seen.attribute(sna)?;
         keep(self.read, thing)?;
         Ok(value)
     }

@@ -3,7 +3,7 @@
 ghost use Rattle.std.specs.Prelude.{◌≡◌, [], List, Some, None, option_copied};
 ghost use Rattle.gw_meaning.specs.declared.watched.Watched.{Watched};
 ghost use Rattle.gw_meaning.specs.Entities.{store_at};
-ghost use Rattle.gw_meaning.specs.Step.{reads_capacity, kind_of_condition, is_open, gate_at, gate_storage, gate_other, gate_of, gate_prog};
+ghost use Rattle.gw_meaning.specs.Step.{reads_capacity, kind_of_condition, is_open, gate_at, gate_storage, gate_other, gate_prog};
 ghost use Rattle.gw_asking.specs.Deciding.{Decides, Comes};
 
 use crate::entering::pass;
@@ -31,29 +31,9 @@ pub fn decide_gate(
         (gate_prog state.now asker.now id operator (option_copied entity.entry) (option_copied label.entry))
         result notes.old notes.new }
 {
-    match operator {
-        Auxiliary::Gate(condition) => {
-            gate_of(state, case, asker, notes, id, condition, entity, label)
-        }
-        _ => Err(Halt::stop(Stop::NoNextBlock)),
-    }
-}
-
-// A GATE with this condition, of the storage or the entity that an operand names.
-fn gate_of(
-    state: &State,
-    case: Case,
-    asker: &Asker,
-    notes: &mut Notes,
-    id: StatementId,
-    condition: Condition,
-    entity: Option<&Expr>,
-    label: Option<&Expr>,
-) -> Result<Move, Halt>
-    ensures { Decides case.entry.version.now case.entry.seed
-        (gate_of state.now asker.now id condition (option_copied entity.entry) (option_copied label.entry))
-        result notes.old notes.new }
-{
+    let Auxiliary::Gate(condition) = operator else {
+        return Err(Halt::stop(Stop::NoNextBlock));
+    };
     let Some(expr) = entity else {
         return Err(Halt::stop(Stop::Range));
     };
@@ -192,13 +172,13 @@ fn is_open(state: &State, condition: Condition, key: &Key, capacity: u64) -> boo
 {
     match condition {
         Condition::InUse => state.entities().facility(key).owner().is_some(),
-        Condition::NotInUse => !state.entities().facility(key).owner().is_some(),
+        Condition::NotInUse => state.entities().facility(key).owner().is_none(),
         Condition::IsSet => state.entities().is_set(key),
         Condition::IsReset => !state.entities().is_set(key),
         Condition::Empty => units_in_use(state, key) == 0,
-        Condition::NotEmpty => !(units_in_use(state, key) == 0),
+        Condition::NotEmpty => units_in_use(state, key) != 0,
         Condition::Full => capacity <= units_in_use(state, key),
-        Condition::NotFull => !(capacity <= units_in_use(state, key)),
+        Condition::NotFull => units_in_use(state, key) < capacity,
     }
 }
 

@@ -12,12 +12,12 @@ use Rattle.gw_values.proofs.traced.Traced.of_attribute.Goals as goal
 
 pub returns-in_err-thing-clause-decided : goal.returns-in_err-thing-clause-decided
 returns-in_err-thing-clause-decided c =
-    let w = c.args.self.now in
+    let w = c.args.self.now.seen in
     let t = w.case.version.now in
     let seed = w.case.seed in
     let class = c.args.sna.class in
     let of = c.args.sna.of.now in
-    let read = w.read.now.items in
+    let read = c.args.self.now.read.now.items in
     let valued : List Watched → Eval (ℤ × List Watched) =
     λ more. attribute_prog w.state.now w.asker.now class of ~> (λ v. gives (v, with_all_watched read more)) in
     let p = err_from_is_err_and c.from_residual.result c.from_residual.ensures.1 in
@@ -26,12 +26,12 @@ returns-in_err-thing-clause-decided c =
 
 pub returns-in_err-value-clause-decided : goal.returns-in_err-value-clause-decided
 returns-in_err-value-clause-decided c =
-    let w = c.args.self.now in
+    let w = c.args.self.now.seen in
     let t = w.case.version.now in
     let seed = w.case.seed in
     let class = c.args.sna.class in
     let of = c.args.sna.of.now in
-    let read = w.read.now.items in
+    let read = c.args.self.now.read.now.items in
     let valued : List Watched → Eval (ℤ × List Watched) =
     λ more. attribute_prog w.state.now w.asker.now class of ~> (λ v. gives (v, with_all_watched read more)) in
     let more = option_to_list c.in_ok-thing.thing in
@@ -43,12 +43,12 @@ returns-in_err-value-clause-decided c =
 
 pub returns-clause-decided : goal.returns-clause-decided
 returns-clause-decided c =
-    let w = c.args.self.now in
+    let w = c.args.self.now.seen in
     let t = w.case.version.now in
     let seed = w.case.seed in
     let class = c.args.sna.class in
     let of = c.args.sna.of.now in
-    let read = w.read.now.items in
+    let read = c.args.self.now.read.now.items in
     let valued : List Watched → Eval (ℤ × List Watched) =
     λ more. attribute_prog w.state.now w.asker.now class of ~> (λ v. gives (v, with_all_watched read more)) in
     let more = option_to_list c.in_ok-thing.thing in

@@ -3,20 +3,20 @@ use Rattle.gw_meaning.specs.Step.{step}
 use Rattle.gw_asking.specs.Noted.{Noted}
 use Rattle.gw_expr.specs.declared.halt.Halt.TheVariants as halts
 use Rattle.gw_scan.proofs.StepLaws.{foretold, goes_on, ends_as}
-use Rattle.gw_scan.proofs.steps.next_end.Goals as goal
+use Rattle.gw_scan.proofs.steps.end_at.Goals as goal
 
 pub returns-in-Ok : goal.returns-in-Ok
 returns-in-Ok c =
-    let t = c.args.case.version.now in
-    let seed = c.args.case.seed in
+    let t = c.args.version.now in
+    let seed = c.args.seed in
     let s = c.args.state.now in
     let same = ap (λ (n : Noted). n.streams) c.new-notes.ensures ∙ c.streams.ensures in
     goes_on (step t seed s) _ (foretold t seed s (Ok c.in-Ok.to) c.new-notes.result c.decide-decided.new.notes same c.in-Ok.ensures)
 
 pub returns-in-Err-End : goal.returns-in-Err-End
 returns-in-Err-End c =
-    let t = c.args.case.version.now in
-    let seed = c.args.case.seed in
+    let t = c.args.version.now in
+    let seed = c.args.seed in
     let s = c.args.state.now in
     let same = ap (λ (n : Noted). n.streams) c.new-notes.ensures ∙ c.streams.ensures in
     let end = c.in-Err-End.end in

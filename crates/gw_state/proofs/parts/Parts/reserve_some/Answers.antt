@@ -3,7 +3,7 @@ use Rattle.std.proofs.lemmas.Result.{on_ok_weaker}
 use Rattle.gw_meaning.specs.Machine.{delay_at}
 use Rattle.gw_chains.specs.Chains.{delays_of, with_share}
 use Rattle.gw_chains.proofs.LetIn.{room_for, with_nobody}
-use Rattle.gw_state.proofs.letting_in.reserve_some.Goals as goal
+use Rattle.gw_state.proofs.parts.Parts.reserve_some.Goals as goal
 
 pub returns-in_default-clause-ok : goal.returns-in_default-clause-ok
 returns-in_default-clause-ok c = rw (← c.in_default.ensures, with_nobody c.args.shares.now) (omega arith, tt)
@@ -13,7 +13,7 @@ returns-in_default-clause-going c = rw (← c.in_default.ensures, with_nobody c.
 
 pub returns-clause-going : goal.returns-clause-going
 returns-clause-going c =
-    let cs = c.args.delays.now in
+    let cs = c.args.self.now.delays in
     let shares = c.args.shares.now in
     let count = c.in_ok-count.count in
     let all = c.in_ok-count.ensures.count in
