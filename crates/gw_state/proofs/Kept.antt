@@ -155,7 +155,7 @@ brought_is (changes.Entity change) v =
     ap (λ (a : Aside). record (changed (changes.Entity change) v) { parameters = a.1 })
     (sym (some_let_in_keeps change.0 (deed_shares change.1) [] (delay_at v.delays change.0) v))
 
--- what becomes of a transaction, where its user chain and the parameters are kept before
+-- where a transaction moves on, with its user chain and the parameters kept before
 pub settled_is : (change : Change) (fate : Fate) (y : Transaction) (s : Machine) →
     record (fated fate y (record s {
       linked = linked_by fate y s.linked;

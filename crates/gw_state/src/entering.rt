@@ -42,7 +42,7 @@ impl Parts {
         self.keep(alloc, &x, id, change, fate)?;
         self.counts.cross(x.current, id, fate);
         let clock = self.clocks.clock();
-        self.settle(marked(change, clock, placed(x, id)), fate);
+        self.move_on(marked(change, clock, placed(x, id)), fate);
         self.bring(change);
         self.retry.wake(written.as_slice(), &mut self.current);
         Ok(())
@@ -151,8 +151,8 @@ impl Parts {
         }
     }
 
-    // What becomes of the transaction that entered a block, but for its parameters and its user chain.
-    fn settle(&mut self, x: Transaction, fate: &Fate)
+    // The transaction that entered a block moves on as its fate says; its parameters and its user chain are kept before.
+    fn move_on(&mut self, x: Transaction, fate: &Fate)
         requires current { 0 < self.old.current.room }
         requires future { 0 < self.old.future.room }
         ensures fated { machine_of self.new ≡ record (fated fate.now x (machine_of self.old)) {

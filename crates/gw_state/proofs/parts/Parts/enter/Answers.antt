@@ -67,8 +67,8 @@ returns-clause-ok c =
       linked = linked i;
       parameters = parameters i;
     }) ∙ settled_is change fate y base in
-    let settled : machine_of c.settle.new.self ≡ record v { parameters = given_last } =
-    c.settle.ensures.fated
+    let settled : machine_of c.move_on.new.self ≡ record v { parameters = given_last } =
+    c.move_on.ensures.fated
     ∙ (ap₂ (λ z m. record (fated fate z m) { linked = before.linked; parameters = before.parameters }) is_y kept ∙ fields) in
     -- behind whom the change brings, and behind those who wake
     let brought : machine_of c.bring.new.self ≡ entering s x id change fate =
