@@ -9,7 +9,7 @@ use gw_meaning::operands::{A, B, C, D, E};
 use gw_meaning::{Block, Move, StatementId, Transaction};
 use gw_names::BlockVerb;
 use gw_state::State;
-use gw_values::for_one;
+use gw_values::{Context, for_one};
 use gw_verbs::{
     decide_advance, decide_assign, decide_buffer, decide_depart, decide_enter, decide_gate,
     decide_generate, decide_leave, decide_link, decide_logic, decide_loop, decide_mark,
@@ -49,6 +49,7 @@ fn decide_block(
         result notes.old notes.new }
 {
     let asker = &for_one(state, x);
+    let at = Context { state, asker, case };
     let a = block.operand(A);
     let b = block.operand(B);
     let c = block.operand(C);
@@ -56,29 +57,29 @@ fn decide_block(
     match block.verb {
         BlockVerb::Generate => {
             let limit = block.operand(D);
-            decide_generate(state, case, notes, x, id, a, b, limit, block.operand(E))
+            decide_generate(at, notes, x, id, a, b, limit, block.operand(E))
         }
-        BlockVerb::Advance => decide_advance(state, case, asker, notes, id, a, b),
-        BlockVerb::Terminate => decide_terminate(state, case, asker, notes, id, a),
-        BlockVerb::Queue => decide_queue(state, case, asker, notes, id, a, b),
-        BlockVerb::Depart => decide_depart(state, case, asker, notes, x, id, a, b),
-        BlockVerb::Seize => decide_seize(state, case, asker, notes, id, a),
-        BlockVerb::Release => decide_release(state, case, asker, notes, x, id, a),
-        BlockVerb::Enter => decide_enter(state, case, asker, notes, id, a, b),
-        BlockVerb::Leave => decide_leave(state, case, asker, notes, id, a, b),
+        BlockVerb::Advance => decide_advance(at, notes, id, a, b),
+        BlockVerb::Terminate => decide_terminate(at, notes, id, a),
+        BlockVerb::Queue => decide_queue(at, notes, id, a, b),
+        BlockVerb::Depart => decide_depart(at, notes, x, id, a, b),
+        BlockVerb::Seize => decide_seize(at, notes, id, a),
+        BlockVerb::Release => decide_release(at, notes, x, id, a),
+        BlockVerb::Enter => decide_enter(at, notes, id, a, b),
+        BlockVerb::Leave => decide_leave(at, notes, id, a, b),
         BlockVerb::Transfer => decide_transfer(case, notes, id, a, b, c),
-        BlockVerb::Test => decide_test(state, case, asker, notes, id, beside, a, b, c),
-        BlockVerb::Gate => decide_gate(state, case, asker, notes, id, beside, a, b),
-        BlockVerb::Logic => decide_logic(state, case, asker, notes, id, beside, a),
-        BlockVerb::Savevalue => decide_savevalue(state, case, asker, notes, id, beside, a, b),
-        BlockVerb::Tabulate => decide_tabulate(state, case, asker, notes, id, a),
-        BlockVerb::Split => decide_split(state, case, asker, notes, id, a, b),
-        BlockVerb::Link => decide_link(state, case, asker, notes, id, a, b),
-        BlockVerb::Unlink => decide_unlink(state, case, asker, notes, id, a, b, c),
+        BlockVerb::Test => decide_test(at, notes, id, beside, a, b, c),
+        BlockVerb::Gate => decide_gate(at, notes, id, beside, a, b),
+        BlockVerb::Logic => decide_logic(at, notes, id, beside, a),
+        BlockVerb::Savevalue => decide_savevalue(at, notes, id, beside, a, b),
+        BlockVerb::Tabulate => decide_tabulate(at, notes, id, a),
+        BlockVerb::Split => decide_split(at, notes, id, a, b),
+        BlockVerb::Link => decide_link(at, notes, id, a, b),
+        BlockVerb::Unlink => decide_unlink(at, notes, id, a, b, c),
         BlockVerb::Mark => decide_mark(id),
-        BlockVerb::Priority => decide_priority(state, case, asker, notes, id, a),
+        BlockVerb::Priority => decide_priority(at, notes, id, a),
         BlockVerb::Buffer => decide_buffer(id),
-        BlockVerb::Assign => decide_assign(state, case, asker, notes, id, beside, a, b),
-        BlockVerb::Loop => decide_loop(state, case, asker, notes, id, a, b),
+        BlockVerb::Assign => decide_assign(at, notes, id, beside, a, b),
+        BlockVerb::Loop => decide_loop(at, notes, id, a, b),
     }
 }

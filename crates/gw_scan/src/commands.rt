@@ -7,7 +7,7 @@ use gw_asking::{Case, Notes, ask_command, ask_generates};
 use gw_expr::{End, Halt, Row};
 use gw_meaning::{Arrival, Command, Move};
 use gw_state::State;
-use gw_values::{arrivals, for_none};
+use gw_values::{Context, arrivals, for_none};
 
 // No START is under way: the next command.
 pub fn decide_command(state: &State, case: Case, notes: &mut Notes) -> Result<Move, Halt>
@@ -62,5 +62,6 @@ fn first_arrivals(
         result notes.old notes.new }
 {
     let ids = ask_generates(case.version, notes)?;
-    arrivals(state, case, &for_none(count), notes, ids)
+    let asker = &for_none(count);
+    arrivals(Context { state, asker, case }, notes, ids)
 }

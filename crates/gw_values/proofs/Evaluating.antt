@@ -73,30 +73,30 @@ module _ (t : Listing) (seed : ℕ) (s : Machine) (q : Asker) where
 module _ {says : (question : Question) → Reply question → Type 0} where
   -- what is seen stays over an evaluation, and its notes are those of the replies
   noted : {A : Type 0} {p : Evaluation A} {r : Result A Halt} {old new : Seen} → Evaluates says Replies p r old new →
-      Evaluates says (Replied old.case.version.now old.case.seed old.state.now old.asker.now) p r old.notes.now new.notes.now × IsStill old new
-  noted (yields a w) = (yields a _, (refl, refl, refl, refl))
-  noted (stops stop w) = (stops stop _, (refl, refl, refl, refl))
-  noted (refused p w) = (refused p _, (refl, refl, refl, refl))
-  noted (replied question k reply r old between new said (there, (state, asker, of_case, name)) rest) =
-      let (h, (state2, asker2, case2, name2)) = noted rest in (
-        replied question k reply r _ _ _ said there (rw (state, asker, of_case) at h),
-        (rw state2 state, rw asker2 asker, rw case2 of_case, rw name2 name),
+      Evaluates says (Replied old.at.case.version.now old.at.case.seed old.at.state.now old.at.asker.now) p r old.notes.now new.notes.now × IsStill old new
+  noted (yields a w) = (yields a _, (refl, refl))
+  noted (stops stop w) = (stops stop _, (refl, refl))
+  noted (refused p w) = (refused p _, (refl, refl))
+  noted (replied question k reply r old between new said (there, (still, name)) rest) =
+      let (h, (still2, name2)) = noted rest in (
+        replied question k reply r _ _ _ said there (rw still at h),
+        (rw still2 still, rw name2 name),
       )
   noted (failed question k fault old new (there, still)) = (failed question k fault _ _ there, still)
 
 -- what an evaluation over what is seen came to, where it borrows the notes up to here
 pub seen_decides : {A : Type 0} {p : Evaluation A} {r : Result A Halt} {old new : Seen} {notes : Noted} →
-    Evaluates (Replying old.case.version.now) Replies p r old new →
+    Evaluates (Replying old.at.case.version.now) Replies p r old new →
     (old.notes.ghost_name ≡ new.notes.ghost_name → notes ≡ new.notes.now) →
-    Decides old.case.version.now old.case.seed (evaluated old.state.now old.asker.now p) r old.notes.now notes
+    Decides old.at.case.version.now old.at.case.seed (evaluated old.at.state.now old.at.asker.now p) r old.notes.now notes
 seen_decides {old} h ends =
-    let (of_notes, (state, asker, of_case, name)) = noted h in
-    rw (ends (sym name)) (evaluation_decides old.case.version.now old.case.seed old.state.now old.asker.now of_notes)
+    let (of_notes, (still, name)) = noted h in
+    rw (ends (sym name)) (evaluation_decides old.at.case.version.now old.at.case.seed old.at.state.now old.at.asker.now of_notes)
 
 -- of the value of an operand
 pub value_decides : (operand : Term) {r : Result ℤ Halt} {old new : Seen} {notes : Noted} →
-    Evaluates (Replying old.case.version.now) Replies (value_of operand) r old new →
+    Evaluates (Replying old.at.case.version.now) Replies (value_of operand) r old new →
     (old.notes.ghost_name ≡ new.notes.ghost_name → notes ≡ new.notes.now) →
-    Decides old.case.version.now old.case.seed (value_prog old.state.now old.asker.now operand) r old.notes.now notes
+    Decides old.at.case.version.now old.at.case.seed (value_prog old.at.state.now old.at.asker.now operand) r old.notes.now notes
 unfolding value_prog
 value_decides operand h ends = seen_decides h ends

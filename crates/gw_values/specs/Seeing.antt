@@ -31,14 +31,12 @@ Replied t seed s q (PartOf of) old result new = Decides t seed (reply_prog s q (
 Replied t seed s q (VariableOf name) old result new = Marks (items.Named asking.Variable name) old result new
 Replied t seed s q (FunctionOf name) old result new = Marks (items.Named asking.Function name) old result new
 
--- the state, who asks, the version and the seed, and where it is noted, are the same
+-- where it is evaluated, and where it is noted, are the same
 abbrev pub IsStill : Seen → Seen → Type 0
-IsStill old new =
-    (new.state ≡ old.state) × (new.asker ≡ old.asker) × (new.case ≡ old.case)
-    × (new.notes.ghost_name ≡ old.notes.ghost_name)
+IsStill old new = (new.at ≡ old.at) × (new.notes.ghost_name ≡ old.notes.ghost_name)
 
 -- what a question is replied to, of what is seen
 abbrev pub Replies : (question : Question) → Seen → Result (Reply question) Halt → Seen → Type 0
 Replies question old result new =
-    Replied old.case.version.now old.case.seed old.state.now old.asker.now question old.notes.now result new.notes.now
-    × IsStill old new
+    Replied old.at.case.version.now old.at.case.seed old.at.state.now old.at.asker.now question old.notes.now result
+    new.notes.now × IsStill old new

@@ -4,12 +4,13 @@ ghost use Rattle.gw_meaning.specs.Machine.{live, count_at};
 ghost use Rattle.gw_meaning.specs.Step.{arrival_prog, arrival_in_time, arrival_at, first_of, first_arrival, prime_prog, arrivals_prog, with_arrival};
 ghost use Rattle.gw_asking.specs.Deciding.{Decides, Comes};
 
+use crate::context::Context;
 use crate::operand::{value, value_or_zero};
 use crate::times::time;
-use gw_asking::{Case, Notes, ask_block};
+use gw_asking::{Notes, ask_block};
 use gw_expr::{Expr, Halt, Row, Stop};
 use gw_meaning::operands::{A, B, C, D, E};
-use gw_meaning::{Arrival, Asker, Block, StatementId};
+use gw_meaning::{Arrival, Block, StatementId};
 use gw_nums::Val;
 use gw_state::State;
 use std::alloc::AllocError;
@@ -28,9 +29,7 @@ fn is_full(state: &State) -> bool
 /// where the limit is reached. X11 where the limit is below 0, X1 where the time is, X9 where 100,000 transactions
 /// live.
 pub fn arrival(
-    state: &State,
-    case: Case,
-    asker: &Asker,
+    at: Context,
     notes: &mut Notes,
     id: StatementId,
     mean: Option<&Expr>,
@@ -38,40 +37,39 @@ pub fn arrival(
     limit: Option<&Expr>,
     priority: Option<&Expr>,
 ) -> Result<Option<Arrival>, Halt>
-    ensures { Decides case.entry.version.now case.entry.seed
-        (arrival_prog state.now asker.now id (count_at state.now.counts id).made (option_copied mean.entry)
+    ensures { Decides at.entry.case.version.now at.entry.case.seed
+        (arrival_prog at.entry.state.now at.entry.asker.now id (count_at at.entry.state.now.counts id).made
+        (option_copied mean.entry)
         (option_copied range.entry) (option_copied limit.entry) (option_copied priority.entry))
         result notes.old notes.new }
 {
     if let Some(limit) = limit {
-        let limit = value(state, case, asker, notes, limit)?;
+        let limit = value(at, notes, limit)?;
         if limit.is_negative() {
             return Err(Halt::stop(Stop::BadCount));
         }
-        if limit.magnitude() <= state.count(id).made {
+        if limit.magnitude() <= at.state.count(id).made {
             return Ok(None);
         }
     }
-    arrival_in_time(state, case, asker, notes, id, mean, range, priority)
+    arrival_in_time(at, notes, id, mean, range, priority)
 }
 
 fn arrival_in_time(
-    state: &State,
-    case: Case,
-    asker: &Asker,
+    at: Context,
     notes: &mut Notes,
     id: StatementId,
     mean: Option<&Expr>,
     range: Option<&Expr>,
     priority: Option<&Expr>,
 ) -> Result<Option<Arrival>, Halt>
-    ensures { Decides case.entry.version.now case.entry.seed
-        (arrival_in_time state.now asker.now id (option_copied mean.entry) (option_copied range.entry)
+    ensures { Decides at.entry.case.version.now at.entry.case.seed
+        (arrival_in_time at.entry.state.now at.entry.asker.now id (option_copied mean.entry) (option_copied range.entry)
         (option_copied priority.entry)) result notes.old notes.new }
 {
-    let time = time(state, case, asker, notes, mean, range)?;
-    let priority = value_or_zero(state, case, asker, notes, priority)?;
-    arrival_at(state, id, time, priority)
+    let time = time(at, notes, mean, range)?;
+    let priority = value_or_zero(at, notes, priority)?;
+    arrival_at(at.state, id, time, priority)
 }
 
 fn arrival_at(
@@ -97,65 +95,52 @@ fn arrival_at(
 
 /// The first transactions of the GENERATEs at these ids, in order, each behind its offset or its time in ticks. It
 /// stops as [`arrival`] does; a block that is no GENERATE has none.
-pub fn arrivals(
-    state: &State,
-    case: Case,
-    asker: &Asker,
-    notes: &mut Notes,
-    ids: &[StatementId],
-) -> Result<Row<Arrival>, Halt>
-    ensures { Decides case.entry.version.now case.entry.seed (arrivals_prog state.now asker.now ids.now [])
+pub fn arrivals(at: Context, notes: &mut Notes, ids: &[StatementId]) -> Result<Row<Arrival>, Halt>
+    ensures { Decides at.entry.case.version.now at.entry.case.seed
+        (arrivals_prog at.entry.state.now at.entry.asker.now ids.now [])
         result notes.old notes.new }
 {
-    let mut arrivals = Vec::new(case.alloc);
+    let mut arrivals = Vec::new(at.case.alloc);
     for id in ids {
-        let arrival = prime(state, case, asker, notes, *id)?;
+        let arrival = prime(at, notes, *id)?;
         put_if(&mut arrivals, arrival)?;
     }
     Ok(Row::from_vec(arrivals))
 }
 
-fn prime(
-    state: &State,
-    case: Case,
-    asker: &Asker,
-    notes: &mut Notes,
-    id: StatementId,
-) -> Result<Option<Arrival>, Halt>
-    ensures { Decides case.entry.version.now case.entry.seed
-        (prime_prog state.now asker.now id) result notes.old notes.new }
+fn prime(at: Context, notes: &mut Notes, id: StatementId) -> Result<Option<Arrival>, Halt>
+    ensures { Decides at.entry.case.version.now at.entry.case.seed
+        (prime_prog at.entry.state.now at.entry.asker.now id) result notes.old notes.new }
 {
-    let block = ask_block(case.version, notes, id)?;
-    first_arrival(state, case, asker, notes, id, block)
+    let block = ask_block(at.case.version, notes, id)?;
+    first_arrival(at, notes, id, block)
 }
 
 fn first_arrival(
-    state: &State,
-    case: Case,
-    asker: &Asker,
+    at: Context,
     notes: &mut Notes,
     id: StatementId,
     block: Option<&Block>,
 ) -> Result<Option<Arrival>, Halt>
-    ensures { Decides case.entry.version.now case.entry.seed
-        (first_arrival state.now asker.now id (option_copied block.entry)) result notes.old notes.new }
+    ensures { Decides at.entry.case.version.now at.entry.case.seed
+        (first_arrival at.entry.state.now at.entry.asker.now id (option_copied block.entry))
+        result notes.old notes.new }
 {
     match block {
-        Some(block) if block.is_generate() => first_of(state, case, asker, notes, id, block),
+        Some(block) if block.is_generate() => first_of(at, notes, id, block),
         _ => Ok(None),
     }
 }
 
 // The first transaction of a GENERATE comes after the offset, where there is one.
 fn first_of(
-    state: &State,
-    case: Case,
-    asker: &Asker,
+    at: Context,
     notes: &mut Notes,
     id: StatementId,
     block: &Block,
 ) -> Result<Option<Arrival>, Halt>
-    ensures { Decides case.entry.version.now case.entry.seed (first_of state.now asker.now id block.now true)
+    ensures { Decides at.entry.case.version.now at.entry.case.seed
+        (first_of at.entry.state.now at.entry.asker.now id block.now true)
         result notes.old notes.new }
 {
     let (mean, range) = match block.operand(C) {
@@ -163,9 +148,7 @@ fn first_of(
         None => (block.operand(A), block.operand(B)),
     };
     arrival(
-        state,
-        case,
-        asker,
+        at,
         notes,
         id,
         mean,

@@ -2,57 +2,37 @@
 ghost use Rattle.std.specs.Prelude.{◌≡◌, pos};
 ghost use Rattle.gw_expr.specs.declared.attribute.Subject.TheVariants as subjects;
 ghost use Rattle.gw_meaning.specs.Evaluation.{amount, own_value, owned, subject_prog, named, numbered, parameter_value, value_held, entity_value, defined_prog, storage_value, table_value, block_count, counted, block_value, drawn_prog, random_prog, random_part, millionths, thousandth, attribute_prog, ◌~>◌, left_prog, units_left};
-ghost use Rattle.gw_meaning.specs.Step.{for_none, for_one};
 ghost use Rattle.gw_asking.specs.Deciding.{Decides, Comes};
 
+use crate::context::Context;
 use gw_asking::{Case, Notes, ask_capacity, ask_label, ask_number, draw, millionths};
 use gw_expr::{Halt, Stop, Subject};
-use gw_meaning::{Asker, StatementId, Transaction};
+use gw_meaning::{Asker, StatementId};
 use gw_names::{Class, Key, Name};
-use gw_nums::{Millionths, Time, Val};
+use gw_nums::{Millionths, Val};
 use gw_state::State;
-
-/// Who asks: a transaction, with its number, its priority and its mark time, and the termination count that is left.
-pub fn for_one(state: &State, x: &Transaction) -> Asker
-    ensures { result ≡ for_one state.now x.now }
-{
-    Asker {
-        is_transaction: true,
-        number: x.number,
-        priority: x.priority,
-        mark: x.mark,
-        remaining: state.remaining(),
-    }
-}
 
 // The value of an attribute other than that of a VARIABLE or of a FUNCTION.
 #[tactic(auto, unfolding(gw_meaning::specs::Evaluation::attribute_prog))]
-pub fn attribute(
-    state: &State,
-    case: Case,
-    asker: &Asker,
-    notes: &mut Notes,
-    class: Class,
-    of: &Subject,
-) -> Result<Val, Halt>
-    ensures { Decides case.entry.version.now case.entry.seed
-        (attribute_prog state.now asker.now class of.now) result notes.old notes.new }
+pub fn attribute(at: Context, notes: &mut Notes, class: Class, of: &Subject) -> Result<Val, Halt>
+    ensures { Decides at.entry.case.version.now at.entry.case.seed
+        (attribute_prog at.entry.state.now at.entry.asker.now class of.now) result notes.old notes.new }
 {
     match class {
         Class::C1 | Class::Ac1 | Class::Tg1 | Class::M1 | Class::Xn1 | Class::Pr => {
-            own_value(state, asker, class)
+            own_value(at.state, at.asker, class)
         }
-        Class::P => of_parameter(state, case, asker, notes, of),
-        Class::F | Class::Fc => of_entity(state, case, notes, class, of),
-        Class::Q | Class::Qc => of_entity(state, case, notes, class, of),
-        Class::Qm | Class::Qz => of_entity(state, case, notes, class, of),
-        Class::X | Class::Ls => of_entity(state, case, notes, class, of),
-        Class::Ch | Class::Cc => of_entity(state, case, notes, class, of),
-        Class::S | Class::Sc | Class::Sm => of_storage(state, class, of),
-        Class::R => left(state, case, notes, of),
-        Class::Tc => of_table(state, of),
-        Class::N | Class::W => of_block(state, case, notes, class, of),
-        Class::Rn => random(case, notes, of),
+        Class::P => of_parameter(at, notes, of),
+        Class::F | Class::Fc => of_entity(at, notes, class, of),
+        Class::Q | Class::Qc => of_entity(at, notes, class, of),
+        Class::Qm | Class::Qz => of_entity(at, notes, class, of),
+        Class::X | Class::Ls => of_entity(at, notes, class, of),
+        Class::Ch | Class::Cc => of_entity(at, notes, class, of),
+        Class::S | Class::Sc | Class::Sm => of_storage(at.state, class, of),
+        Class::R => left(at, notes, of),
+        Class::Tc => of_table(at.state, of),
+        Class::N | Class::W => of_block(at, notes, class, of),
+        Class::Rn => random(at.case, notes, of),
         _ => Err(Halt::stop(Stop::Range)),
     }
 }
@@ -77,18 +57,13 @@ fn own_value(state: &State, asker: &Asker, class: Class) -> Result<Val, Halt>
 }
 
 // Of the transaction that asks: its parameter.
-fn of_parameter(
-    state: &State,
-    case: Case,
-    asker: &Asker,
-    notes: &mut Notes,
-    of: &Subject,
-) -> Result<Val, Halt>
-    ensures { Decides case.entry.version.now case.entry.seed
-        (subject_prog of.now ~> (λ key. parameter_value state.now asker.now key)) result notes.old notes.new }
+fn of_parameter(at: Context, notes: &mut Notes, of: &Subject) -> Result<Val, Halt>
+    ensures { Decides at.entry.case.version.now at.entry.case.seed
+        (subject_prog of.now ~> (λ key. parameter_value at.entry.state.now at.entry.asker.now key))
+        result notes.old notes.new }
 {
-    let key = subject(case, notes, of)?;
-    parameter(state, asker, &key)
+    let key = subject(at.case, notes, of)?;
+    parameter(at.state, at.asker, &key)
 }
 
 // The value of a parameter of the transaction that asks.
@@ -102,18 +77,12 @@ fn parameter(state: &State, asker: &Asker, key: &Key) -> Result<Val, Halt>
 }
 
 // Of a facility, a queue, a savevalue, a switch or a user chain.
-fn of_entity(
-    state: &State,
-    case: Case,
-    notes: &mut Notes,
-    class: Class,
-    of: &Subject,
-) -> Result<Val, Halt>
-    ensures { Decides case.entry.version.now case.entry.seed
-        (subject_prog of.now ~> (λ key. entity_value state.now class key)) result notes.old notes.new }
+fn of_entity(at: Context, notes: &mut Notes, class: Class, of: &Subject) -> Result<Val, Halt>
+    ensures { Decides at.entry.case.version.now at.entry.case.seed
+        (subject_prog of.now ~> (λ key. entity_value at.entry.state.now class key)) result notes.old notes.new }
 {
-    let key = subject(case, notes, of)?;
-    entity_value(state, class, &key)
+    let key = subject(at.case, notes, of)?;
+    entity_value(at.state, class, &key)
 }
 
 fn entity_value(state: &State, class: Class, key: &Key) -> Result<Val, Halt>
@@ -170,14 +139,14 @@ fn of_table(state: &State, of: &Subject) -> Result<Val, Halt>
 }
 
 // The units of a storage that are left.
-fn left(state: &State, case: Case, notes: &mut Notes, of: &Subject) -> Result<Val, Halt>
-    ensures { Decides case.entry.version.now case.entry.seed (left_prog state.now of.now)
+fn left(at: Context, notes: &mut Notes, of: &Subject) -> Result<Val, Halt>
+    ensures { Decides at.entry.case.version.now at.entry.case.seed (left_prog at.entry.state.now of.now)
         result notes.old notes.new }
 {
     match of {
         Subject::Name(name) => {
-            let capacity = ask_capacity(case.version, notes, name)?;
-            units_left(state, capacity, &Key::Defined(name.clone()?))
+            let capacity = ask_capacity(at.case.version, notes, name)?;
+            units_left(at.state, capacity, &Key::Defined(name.clone()?))
         }
         _ => Err(Halt::stop(Stop::Range)),
     }
@@ -192,20 +161,14 @@ fn units_left(state: &State, capacity: u64, key: &Key) -> Result<Val, Halt>
 }
 
 // Of a block.
-fn of_block(
-    state: &State,
-    case: Case,
-    notes: &mut Notes,
-    class: Class,
-    of: &Subject,
-) -> Result<Val, Halt>
-    ensures { Decides case.entry.version.now case.entry.seed
-        (block_count of.now (λ id. block_value state.now class id)) result notes.old notes.new }
+fn of_block(at: Context, notes: &mut Notes, class: Class, of: &Subject) -> Result<Val, Halt>
+    ensures { Decides at.entry.case.version.now at.entry.case.seed
+        (block_count of.now (λ id. block_value at.entry.state.now class id)) result notes.old notes.new }
 {
     match of {
         Subject::Name(name) => {
-            let id = ask_label(case.version, notes, name)?;
-            counted(state, class, id)
+            let id = ask_label(at.case.version, notes, name)?;
+            counted(at.state, class, id)
         }
         _ => Err(Halt::stop(Stop::Range)),
     }
@@ -237,19 +200,6 @@ fn value_held(value: Option<Val>) -> Result<Val, Halt>
     match value {
         Some(value) => Ok(value),
         None => Err(Halt::stop(Stop::NoParameter)),
-    }
-}
-
-/// Who asks: no transaction, as for the operands of a GENERATE. P, PR, M1 and XN1 are X5 then.
-pub fn for_none(remaining: u64) -> Asker
-    ensures { result ≡ for_none remaining }
-{
-    Asker {
-        is_transaction: false,
-        number: 0,
-        priority: Val::ZERO,
-        mark: Time::ZERO,
-        remaining,
     }
 }
 

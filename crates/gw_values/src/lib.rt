@@ -6,13 +6,14 @@
 
 mod arriving;
 mod attributes;
+mod context;
 mod operand;
 mod seen;
 mod times;
 mod traced;
 
 pub use arriving::{LIVE_LIMIT, arrival, arrivals};
-pub use attributes::{for_none, for_one};
+pub use context::{Context, for_none, for_one};
 pub use operand::{entity_traced, key_of, units_of, value_or_zero, value_there, value_traced};
 pub use times::time;
 pub use traced::keep_once;

@@ -6,126 +6,87 @@ ghost use Rattle.gw_asking.specs.Deciding.{Decides};
 ghost use Rattle.gw_values.specs.Tracing.{with_read};
 
 use crate::attributes::{key_named, key_numbered};
+use crate::context::Context;
 use crate::seen::Seen;
 use crate::traced::Traced;
-use gw_asking::{Case, Notes, ask_number};
+use gw_asking::{Notes, ask_number};
 use gw_expr::{Expr, Halt, Node, Stop, eval};
-use gw_meaning::{Asker, Watched};
+use gw_meaning::Watched;
 use gw_names::Key;
 use gw_nums::Val;
 use gw_state::State;
 
 // The value of an operand.
-pub fn value(
-    state: &State,
-    case: Case,
-    asker: &Asker,
-    notes: &mut Notes,
-    operand: &Expr,
-) -> Result<Val, Halt>
-    ensures { Decides case.entry.version.now case.entry.seed (value_prog state.now asker.now operand.now)
+pub fn value(at: Context, notes: &mut Notes, operand: &Expr) -> Result<Val, Halt>
+    ensures { Decides at.entry.case.version.now at.entry.case.seed
+        (value_prog at.entry.state.now at.entry.asker.now operand.now)
         result notes.old notes.new }
 {
-    let mut seen = Seen {
-        state,
-        asker,
-        case,
-        notes,
-    };
-    eval(operand, case.version, &mut seen)
+    let mut seen = Seen { at, notes };
+    eval(operand, at.case.version, &mut seen)
 }
 
 /// The value of an operand that is there. It stops as its evaluation does, and with X7 where the operand is absent,
 /// which no version that was read lacks.
-pub fn value_there(
-    state: &State,
-    case: Case,
-    asker: &Asker,
-    notes: &mut Notes,
-    operand: Option<&Expr>,
-) -> Result<Val, Halt>
-    ensures { Decides case.entry.version.now case.entry.seed
-        (value_there state.now asker.now (option_copied operand.entry))
+pub fn value_there(at: Context, notes: &mut Notes, operand: Option<&Expr>) -> Result<Val, Halt>
+    ensures { Decides at.entry.case.version.now at.entry.case.seed
+        (value_there at.entry.state.now at.entry.asker.now (option_copied operand.entry))
         result notes.old notes.new }
 {
     match operand {
-        Some(expr) => value(state, case, asker, notes, expr),
+        Some(expr) => value(at, notes, expr),
         None => Err(Halt::stop(Stop::Range)),
     }
 }
 
 /// The value of an operand, or 0 where it is absent.
-pub fn value_or_zero(
-    state: &State,
-    case: Case,
-    asker: &Asker,
-    notes: &mut Notes,
-    operand: Option<&Expr>,
-) -> Result<Val, Halt>
-    ensures { Decides case.entry.version.now case.entry.seed
-        (value_or_zero state.now asker.now (option_copied operand.entry))
+pub fn value_or_zero(at: Context, notes: &mut Notes, operand: Option<&Expr>) -> Result<Val, Halt>
+    ensures { Decides at.entry.case.version.now at.entry.case.seed
+        (value_or_zero at.entry.state.now at.entry.asker.now (option_copied operand.entry))
         result notes.old notes.new }
 {
     match operand {
-        Some(expr) => value(state, case, asker, notes, expr),
+        Some(expr) => value(at, notes, expr),
         None => Ok(Val::ZERO),
     }
 }
 
 /// The key of the entity that an operand names: a name's own, or the number that it stands for or that the operand
 /// comes to. X7 where that number is below 1.
-pub fn key_of(
-    state: &State,
-    case: Case,
-    asker: &Asker,
-    notes: &mut Notes,
-    operand: Option<&Expr>,
-) -> Result<Key, Halt>
-    ensures { Decides case.entry.version.now case.entry.seed
-        (entity_prog state.now asker.now (option_copied operand.entry)) result notes.old notes.new }
+pub fn key_of(at: Context, notes: &mut Notes, operand: Option<&Expr>) -> Result<Key, Halt>
+    ensures { Decides at.entry.case.version.now at.entry.case.seed
+        (entity_prog at.entry.state.now at.entry.asker.now (option_copied operand.entry)) result notes.old notes.new }
 {
     let Some(expr) = operand else {
         return Err(Halt::stop(Stop::Range));
     };
     match expr.node() {
         Node::Named(name) => {
-            let number = ask_number(case.version, notes, name.name())?;
+            let number = ask_number(at.case.version, notes, name.name())?;
             key_named(name.name(), number)
         }
-        _ => computed_entity(state, case, asker, notes, expr),
+        _ => computed_entity(at, notes, expr),
     }
 }
 
 // The entity whose number is the value of an operand.
-fn computed_entity(
-    state: &State,
-    case: Case,
-    asker: &Asker,
-    notes: &mut Notes,
-    operand: &Expr,
-) -> Result<Key, Halt>
-    ensures { Decides case.entry.version.now case.entry.seed
-        (value_prog state.now asker.now operand.now ~> numbered) result notes.old notes.new }
+fn computed_entity(at: Context, notes: &mut Notes, operand: &Expr) -> Result<Key, Halt>
+    ensures { Decides at.entry.case.version.now at.entry.case.seed
+        (value_prog at.entry.state.now at.entry.asker.now operand.now ~> numbered) result notes.old notes.new }
 {
-    let number = value(state, case, asker, notes, operand)?;
+    let number = value(at, notes, operand)?;
     key_numbered(number)
 }
 
 /// How many units an operand says, and 1 where it is absent. X11 where it says less than 1.
-pub fn units_of(
-    state: &State,
-    case: Case,
-    asker: &Asker,
-    notes: &mut Notes,
-    operand: Option<&Expr>,
-) -> Result<u32, Halt>
-    ensures { Decides case.entry.version.now case.entry.seed
-        (units_prog state.now asker.now (option_copied operand.entry)) result notes.old notes.new }
+pub fn units_of(at: Context, notes: &mut Notes, operand: Option<&Expr>) -> Result<u32, Halt>
+    ensures { Decides at.entry.case.version.now at.entry.case.seed
+        (units_prog at.entry.state.now at.entry.asker.now (option_copied operand.entry)) result notes.old notes.new }
 {
     let Some(expr) = operand else {
         return Ok(1);
     };
-    let units = value(state, case, asker, notes, expr)?;
+    let units = value(at, notes, expr)?;
     if units.get() < 1 {
         return Err(Halt::stop(Stop::BadCount));
     }
@@ -135,82 +96,69 @@ pub fn units_of(
 /// The value of an operand that is there. What a block may write of what it reads comes behind what was read before,
 /// each thing once.
 pub fn value_traced(
-    state: &State,
-    case: Case,
-    asker: &Asker,
+    at: Context,
     notes: &mut Notes,
     read: &mut Vec<Watched>,
     operand: Option<&Expr>,
 ) -> Result<Val, Halt>
-    ensures { Decides case.entry.version.now case.entry.seed
-        (value_traced state.now asker.now read.old.items (option_copied operand.entry))
+    ensures { Decides at.entry.case.version.now at.entry.case.seed
+        (value_traced at.entry.state.now at.entry.asker.now read.old.items (option_copied operand.entry))
         (with_read result read.new.items) notes.old notes.new }
 {
     match operand {
-        Some(expr) => evaluation_traced(state, case, asker, notes, read, expr),
+        Some(expr) => evaluation_traced(at, notes, read, expr),
         None => Err(Halt::stop(Stop::Range)),
     }
 }
 
 fn evaluation_traced(
-    state: &State,
-    case: Case,
-    asker: &Asker,
+    at: Context,
     notes: &mut Notes,
     read: &mut Vec<Watched>,
     operand: &Expr,
 ) -> Result<Val, Halt>
-    ensures { Decides case.entry.version.now case.entry.seed
-        (traced state.now asker.now read.old.items (value_of operand.now))
+    ensures { Decides at.entry.case.version.now at.entry.case.seed
+        (traced at.entry.state.now at.entry.asker.now read.old.items (value_of operand.now))
         (with_read result read.new.items) notes.old notes.new }
 {
-    let seen = Seen {
-        state,
-        asker,
-        case,
-        notes,
-    };
+    let seen = Seen { at, notes };
     let mut traced = Traced { seen, read };
-    eval(operand, case.version, &mut traced)
+    eval(operand, at.case.version, &mut traced)
 }
 
 /// The key of the entity that an operand names, with what was read to find it.
 pub fn entity_traced(
-    state: &State,
-    case: Case,
-    asker: &Asker,
+    at: Context,
     notes: &mut Notes,
     read: &mut Vec<Watched>,
     operand: &Expr,
 ) -> Result<Key, Halt>
     requires { read.old.items ≡ [] }
-    ensures { Decides case.entry.version.now case.entry.seed
-        (entity_traced state.now asker.now (Some operand.now)) (with_read result read.new.items)
+    ensures { Decides at.entry.case.version.now at.entry.case.seed
+        (entity_traced at.entry.state.now at.entry.asker.now (Some operand.now)) (with_read result read.new.items)
         notes.old notes.new }
 {
     match operand.node() {
         Node::Named(name) => {
-            let number = ask_number(case.version, notes, name.name())?;
+            let number = ask_number(at.case.version, notes, name.name())?;
             key_named(name.name(), number)
         }
-        _ => computed_traced(state, case, asker, notes, read, operand),
+        _ => computed_traced(at, notes, read, operand),
     }
 }
 
 // The entity whose number is the value of an operand, with what that reads.
 fn computed_traced(
-    state: &State,
-    case: Case,
-    asker: &Asker,
+    at: Context,
     notes: &mut Notes,
     read: &mut Vec<Watched>,
     operand: &Expr,
 ) -> Result<Key, Halt>
-    ensures { Decides case.entry.version.now case.entry.seed
-        (traced state.now asker.now read.old.items (value_of operand.now) ~>
+    ensures { Decides at.entry.case.version.now at.entry.case.seed
+        (traced at.entry.state.now at.entry.asker.now read.old.items (value_of operand.now) ~>
         (λ r. numbered r.0 ~> (λ key. gives (key, r.1)))) (with_read result read.new.items)
         notes.old notes.new }
 {
-    let number = evaluation_traced(state, case, asker, notes, read, operand)?;
+    let number = evaluation_traced(at, notes, read, operand)?;
     key_numbered(number)
 }

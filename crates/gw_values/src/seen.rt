@@ -2,20 +2,18 @@
 ghost use Rattle.gw_values.specs.Seeing.{Replies};
 
 use crate::attributes::{attribute, random_part};
-use gw_asking::{Case, Notes, ask_number};
+use crate::context::Context;
+use gw_asking::{Notes, ask_number};
 use gw_expr::{Halt, Sna, Subject, World};
-use gw_meaning::{Asked, Asker};
+use gw_meaning::Asked;
 use gw_names::Name;
 use gw_nums::{Millionths, Val};
 use gw_state::State;
 
-// What an evaluation of operands asks: a state, for whoever asks, and the version and the seed of its run; and where it
-// notes what it asks for.
+// What an evaluation of operands asks, and where it notes what it asks for.
 #[derive(Drop)]
 pub struct Seen<'a> {
-    pub state: &'a State,
-    pub asker: &'a Asker,
-    pub case: Case<'a>,
+    pub at: Context<'a>,
     pub notes: &'a mut Notes,
 }
 
@@ -23,17 +21,15 @@ impl<'a> World for Seen<'a> {
     ghost replies = { Replies };
 
     fn number(&mut self, name: &Name) -> Result<Option<Val>, Halt> {
-        Ok(ask_number(self.case.version, self.notes, name)?)
+        Ok(ask_number(self.at.case.version, self.notes, name)?)
     }
 
     fn attribute(&mut self, sna: Sna<'_>) -> Result<Val, Halt> {
-        attribute(
-            self.state, self.case, self.asker, self.notes, sna.class, sna.of,
-        )
+        attribute(self.at, self.notes, sna.class, sna.of)
     }
 
     fn part(&mut self, of: &Subject) -> Result<Millionths, Halt> {
-        random_part(self.case, self.notes, of)
+        random_part(self.at.case, self.notes, of)
     }
 
     fn note_variable(&mut self, name: &Name) -> Result<(), Halt> {

@@ -4,31 +4,29 @@ ghost use Rattle.gw_meaning.specs.Step.{delay_of, advance_prog, terminate_prog, 
 ghost use Rattle.gw_asking.specs.Deciding.{Decides, Comes};
 
 use crate::entering::enter_for;
-use gw_asking::{Case, Notes};
+use gw_asking::Notes;
 use gw_expr::{Expr, Halt, Stop};
-use gw_meaning::{Asker, Fate, Move, StatementId};
+use gw_meaning::{Fate, Move, StatementId};
 use gw_state::State;
-use gw_values::{time, value_or_zero};
+use gw_values::{Context, time, value_or_zero};
 
 /// ADVANCE: the transaction is held for a time; one of 0 leaves it active. X1 where the time is below 0.
 pub fn decide_advance(
-    state: &State,
-    case: Case,
-    asker: &Asker,
+    at: Context,
     notes: &mut Notes,
     id: StatementId,
     mean: Option<&Expr>,
     range: Option<&Expr>,
 ) -> Result<Move, Halt>
-    ensures { Decides case.entry.version.now case.entry.seed
-        (advance_prog state.now asker.now id (option_copied mean.entry) (option_copied range.entry))
+    ensures { Decides at.entry.case.version.now at.entry.case.seed
+        (advance_prog at.entry.state.now at.entry.asker.now id (option_copied mean.entry) (option_copied range.entry))
         result notes.old notes.new }
 {
-    let time = time(state, case, asker, notes, mean, range)?;
+    let time = time(at, notes, mean, range)?;
     if time.is_negative() {
         return Err(Halt::stop(Stop::NegativeTime));
     }
-    Ok(enter_for(id, delay(state, time.magnitude())))
+    Ok(enter_for(id, delay(at.state, time.magnitude())))
 }
 
 // What becomes of a transaction that is held so many ticks.
@@ -46,17 +44,16 @@ fn delay(state: &State, ticks: u64) -> Fate
 
 /// TERMINATE: the transaction is destroyed, and takes A, or 0, from the termination count. X11 where A is below 0.
 pub fn decide_terminate(
-    state: &State,
-    case: Case,
-    asker: &Asker,
+    at: Context,
     notes: &mut Notes,
     id: StatementId,
     count: Option<&Expr>,
 ) -> Result<Move, Halt>
-    ensures { Decides case.entry.version.now case.entry.seed
-        (terminate_prog state.now asker.now id (option_copied count.entry)) result notes.old notes.new }
+    ensures { Decides at.entry.case.version.now at.entry.case.seed
+        (terminate_prog at.entry.state.now at.entry.asker.now id (option_copied count.entry))
+        result notes.old notes.new }
 {
-    let count = value_or_zero(state, case, asker, notes, count)?;
+    let count = value_or_zero(at, notes, count)?;
     if count.is_negative() {
         return Err(Halt::stop(Stop::BadCount));
     }

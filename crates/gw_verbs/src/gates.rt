@@ -8,27 +8,26 @@ ghost use Rattle.gw_asking.specs.Deciding.{Decides, Comes};
 
 use crate::entering::pass;
 use crate::leading::lead_to;
-use gw_asking::{Case, Notes, ask_capacity};
+use gw_asking::{Notes, ask_capacity};
 use gw_expr::{Expr, Halt, Node, Row, Stop};
-use gw_meaning::{Asker, Auxiliary, Condition, EntityKind, Move, StatementId, Watched};
+use gw_meaning::{Auxiliary, Condition, EntityKind, Move, StatementId, Watched};
 use gw_names::{Key, StorageName};
 use gw_state::State;
-use gw_values::{entity_traced, keep_once, key_of};
+use gw_values::{Context, entity_traced, keep_once, key_of};
 
 /// GATE: the transaction passes where the condition that the operator says holds of its entity. Else it goes to the
 /// block with the label, or, where no label stands there, waits for a change of the entity.
 pub fn decide_gate(
-    state: &State,
-    case: Case,
-    asker: &Asker,
+    at: Context,
     notes: &mut Notes,
     id: StatementId,
     operator: Auxiliary,
     entity: Option<&Expr>,
     label: Option<&Expr>,
 ) -> Result<Move, Halt>
-    ensures { Decides case.entry.version.now case.entry.seed
-        (gate_prog state.now asker.now id operator (option_copied entity.entry) (option_copied label.entry))
+    ensures { Decides at.entry.case.version.now at.entry.case.seed
+        (gate_prog at.entry.state.now at.entry.asker.now id operator (option_copied entity.entry)
+        (option_copied label.entry))
         result notes.old notes.new }
 {
     let Auxiliary::Gate(condition) = operator else {
@@ -38,73 +37,60 @@ pub fn decide_gate(
         return Err(Halt::stop(Stop::Range));
     };
     match expr.node() {
-        Node::Defined(name) => gate_storage(state, case, notes, id, condition, name, label),
-        _ => gate_other(state, case, asker, notes, id, condition, expr, label),
+        Node::Defined(name) => gate_storage(at, notes, id, condition, name, label),
+        _ => gate_other(at, notes, id, condition, expr, label),
     }
 }
 
 // A GATE of a facility or a switch. Where it may wait, what is read to find the entity is kept.
 fn gate_other(
-    state: &State,
-    case: Case,
-    asker: &Asker,
+    at: Context,
     notes: &mut Notes,
     id: StatementId,
     condition: Condition,
     entity: &Expr,
     label: Option<&Expr>,
 ) -> Result<Move, Halt>
-    ensures { Decides case.entry.version.now case.entry.seed
-        (gate_other state.now asker.now id condition (Some entity.now) (option_copied label.entry))
+    ensures { Decides at.entry.case.version.now at.entry.case.seed
+        (gate_other at.entry.state.now at.entry.asker.now id condition (Some entity.now) (option_copied label.entry))
         result notes.old notes.new }
 {
     match label {
         Some(label) => {
-            let key = key_of(state, case, asker, notes, Some(entity))?;
-            gate_or_lead(state, case, notes, id, condition, label, &key, 0)
+            let key = key_of(at, notes, Some(entity))?;
+            gate_or_lead(at, notes, id, condition, label, &key, 0)
         }
         None => {
-            let mut read = Vec::new(case.alloc);
-            let key = entity_traced(state, case, asker, notes, &mut read, entity)?;
-            gate_or_wait(state, id, condition, key, read, 0)
+            let mut read = Vec::new(at.case.alloc);
+            let key = entity_traced(at, notes, &mut read, entity)?;
+            gate_or_wait(at.state, id, condition, key, read, 0)
         }
     }
 }
 
 // A GATE of a storage: its capacity is asked for only where the condition hangs on it.
 fn gate_storage(
-    state: &State,
-    case: Case,
+    at: Context,
     notes: &mut Notes,
     id: StatementId,
     condition: Condition,
     name: &StorageName,
     label: Option<&Expr>,
 ) -> Result<Move, Halt>
-    ensures { Decides case.entry.version.now case.entry.seed
-        (gate_storage state.now id condition (option_copied label.entry) name.now (reads_capacity condition))
+    ensures { Decides at.entry.case.version.now at.entry.case.seed
+        (gate_storage at.entry.state.now id condition (option_copied label.entry) name.now (reads_capacity condition))
         result notes.old notes.new }
 {
     if !reads_capacity(condition) {
-        return gate_at(state, case, notes, id, condition, label, name.key(), 0);
+        return gate_at(at, notes, id, condition, label, name.key(), 0);
     }
-    let capacity = ask_capacity(case.version, notes, name.name())?;
-    gate_at(
-        state,
-        case,
-        notes,
-        id,
-        condition,
-        label,
-        name.key(),
-        capacity,
-    )
+    let capacity = ask_capacity(at.case.version, notes, name.name())?;
+    gate_at(at, notes, id, condition, label, name.key(), capacity)
 }
 
 // A GATE of the storage with a key, which has so many units.
 fn gate_at(
-    state: &State,
-    case: Case,
+    at: Context,
     notes: &mut Notes,
     id: StatementId,
     condition: Condition,
@@ -112,23 +98,22 @@ fn gate_at(
     key: &Key,
     capacity: u64,
 ) -> Result<Move, Halt>
-    ensures { Decides case.entry.version.now case.entry.seed
-        (gate_at state.now id condition (option_copied label.entry) key.now [] capacity)
+    ensures { Decides at.entry.case.version.now at.entry.case.seed
+        (gate_at at.entry.state.now id condition (option_copied label.entry) key.now [] capacity)
         result notes.old notes.new }
 {
     match label {
-        Some(label) => gate_or_lead(state, case, notes, id, condition, label, key, capacity),
+        Some(label) => gate_or_lead(at, notes, id, condition, label, key, capacity),
         None => {
-            let read = Vec::new(case.alloc);
-            gate_or_wait(state, id, condition, key.clone()?, read, capacity)
+            let read = Vec::new(at.case.alloc);
+            gate_or_wait(at.state, id, condition, key.clone()?, read, capacity)
         }
     }
 }
 
 // On where the condition holds of the entity with a key, and else to the block with the label.
 fn gate_or_lead(
-    state: &State,
-    case: Case,
+    at: Context,
     notes: &mut Notes,
     id: StatementId,
     condition: Condition,
@@ -136,13 +121,13 @@ fn gate_or_lead(
     key: &Key,
     capacity: u64,
 ) -> Result<Move, Halt>
-    ensures { (read : List Watched) → Decides case.entry.version.now case.entry.seed
-        (gate_at state.now id condition (Some label.now) key.now read capacity) result notes.old notes.new }
+    ensures { (read : List Watched) → Decides at.entry.case.version.now at.entry.case.seed
+        (gate_at at.entry.state.now id condition (Some label.now) key.now read capacity) result notes.old notes.new }
 {
-    if is_open(state, condition, key, capacity) {
+    if is_open(at.state, condition, key, capacity) {
         return Ok(pass(id));
     }
-    lead_to(case, notes, id, Some(label))
+    lead_to(at.case, notes, id, Some(label))
 }
 
 // On where the condition holds of the entity with a key; else the transaction waits for a change of it, and of what was

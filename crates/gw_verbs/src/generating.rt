@@ -3,17 +3,15 @@ ghost use Rattle.std.specs.Prelude.{option_copied};
 ghost use Rattle.gw_meaning.specs.Step.{generate_prog};
 ghost use Rattle.gw_asking.specs.Deciding.{Decides};
 
-use gw_asking::{Case, Notes};
+use gw_asking::Notes;
 use gw_expr::{Expr, Halt, Stop};
 use gw_meaning::{Change, Fate, Move, StatementId, Transaction};
-use gw_state::State;
-use gw_values::{arrival, for_none};
+use gw_values::{Context, arrival, for_none};
 
 /// GENERATE: the transaction comes off it, and the next one is made, if any. X8 where it came from another block; else
 /// it stops as [`gw_values::arrival`] does.
 pub fn decide_generate(
-    state: &State,
-    case: Case,
+    at: Context,
     notes: &mut Notes,
     x: &Transaction,
     id: StatementId,
@@ -22,24 +20,18 @@ pub fn decide_generate(
     limit: Option<&Expr>,
     priority: Option<&Expr>,
 ) -> Result<Move, Halt>
-    ensures { Decides case.entry.version.now case.entry.seed
-        (generate_prog state.now x.now id (option_copied mean.entry) (option_copied range.entry)
+    ensures { Decides at.entry.case.version.now at.entry.case.seed
+        (generate_prog at.entry.state.now x.now id (option_copied mean.entry) (option_copied range.entry)
         (option_copied limit.entry) (option_copied priority.entry)) result notes.old notes.new }
 {
     if x.current.number() != 0 {
         return Err(Halt::stop(Stop::NoNextBlock));
     }
-    let next = arrival(
-        state,
-        case,
-        &for_none(state.remaining()),
-        notes,
-        id,
-        mean,
-        range,
-        limit,
-        priority,
-    )?;
+    let at = Context {
+        asker: &for_none(at.state.remaining()),
+        ..at
+    };
+    let next = arrival(at, notes, id, mean, range, limit, priority)?;
     Ok(Move::Enter {
         id,
         change: Change::Generate { next },

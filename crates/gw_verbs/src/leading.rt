@@ -7,17 +7,14 @@ ghost use Rattle.gw_asking.specs.Deciding.{Decides, Comes};
 use crate::entering::{enter_with, pass};
 use gw_asking::{Case, Notes, ask_label, draw, millionths};
 use gw_expr::{Expr, Halt, Node, Row, Stop};
-use gw_meaning::{Asker, Auxiliary, Move, StatementId, TransactionChange, Watched};
+use gw_meaning::{Auxiliary, Move, StatementId, TransactionChange, Watched};
 use gw_nums::Val;
-use gw_state::State;
-use gw_values::{value_there, value_traced};
+use gw_values::{Context, value_there, value_traced};
 
 /// TEST: the transaction goes on where the relation of two values holds. Else it goes to the block with the label, or,
 /// where no label stands there, waits for a change of what they read.
 pub fn decide_test(
-    state: &State,
-    case: Case,
-    asker: &Asker,
+    at: Context,
     notes: &mut Notes,
     id: StatementId,
     relation: Auxiliary,
@@ -25,24 +22,19 @@ pub fn decide_test(
     second: Option<&Expr>,
     label: Option<&Expr>,
 ) -> Result<Move, Halt>
-    ensures { Decides case.entry.version.now case.entry.seed
-        (test_prog state.now asker.now id relation (option_copied first.entry) (option_copied second.entry)
+    ensures { Decides at.entry.case.version.now at.entry.case.seed
+        (test_prog at.entry.state.now at.entry.asker.now id relation (option_copied first.entry)
+        (option_copied second.entry)
         (option_copied label.entry)) result notes.old notes.new }
 {
     match label {
-        Some(label) => {
-            test_or_lead(
-                state, case, asker, notes, id, relation, first, second, label,
-            )
-        }
-        None => test_or_wait(state, case, asker, notes, id, relation, first, second),
+        Some(label) => { test_or_lead(at, notes, id, relation, first, second, label) }
+        None => test_or_wait(at, notes, id, relation, first, second),
     }
 }
 
 fn test_or_lead(
-    state: &State,
-    case: Case,
-    asker: &Asker,
+    at: Context,
     notes: &mut Notes,
     id: StatementId,
     relation: Auxiliary,
@@ -50,35 +42,35 @@ fn test_or_lead(
     second: Option<&Expr>,
     label: &Expr,
 ) -> Result<Move, Halt>
-    ensures { Decides case.entry.version.now case.entry.seed
-        (test_prog state.now asker.now id relation (option_copied first.entry) (option_copied second.entry)
+    ensures { Decides at.entry.case.version.now at.entry.case.seed
+        (test_prog at.entry.state.now at.entry.asker.now id relation (option_copied first.entry)
+        (option_copied second.entry)
         (Some label.now)) result notes.old notes.new }
 {
-    let first = value_there(state, case, asker, notes, first)?;
-    let second = value_there(state, case, asker, notes, second)?;
+    let first = value_there(at, notes, first)?;
+    let second = value_there(at, notes, second)?;
     if holds(relation, first, second) {
         return Ok(pass(id));
     }
-    lead_to(case, notes, id, Some(label))
+    lead_to(at.case, notes, id, Some(label))
 }
 
 fn test_or_wait(
-    state: &State,
-    case: Case,
-    asker: &Asker,
+    at: Context,
     notes: &mut Notes,
     id: StatementId,
     relation: Auxiliary,
     first: Option<&Expr>,
     second: Option<&Expr>,
 ) -> Result<Move, Halt>
-    ensures { Decides case.entry.version.now case.entry.seed
-        (test_or_wait state.now asker.now id relation (option_copied first.entry) (option_copied second.entry))
+    ensures { Decides at.entry.case.version.now at.entry.case.seed
+        (test_or_wait at.entry.state.now at.entry.asker.now id relation (option_copied first.entry)
+        (option_copied second.entry))
         result notes.old notes.new }
 {
-    let mut read = Vec::new(case.alloc);
-    let first = value_traced(state, case, asker, notes, &mut read, first)?;
-    let second = value_traced(state, case, asker, notes, &mut read, second)?;
+    let mut read = Vec::new(at.case.alloc);
+    let first = value_traced(at, notes, &mut read, first)?;
+    let second = value_traced(at, notes, &mut read, second)?;
     Ok(pass_or_watch(id, holds(relation, first, second), read))
 }
 

@@ -9,23 +9,20 @@ ghost use Rattle.gw_asking.specs.Deciding.{Decides, Comes};
 use crate::entering::{enter_bringing, enter_for};
 use gw_asking::{Case, Notes, ask_label};
 use gw_expr::{Discipline, Expr, Halt, Node, Stop};
-use gw_meaning::{Asker, Change, Destination, Fate, Move, StatementId};
+use gw_meaning::{Change, Destination, Fate, Move, StatementId};
 use gw_names::Key;
-use gw_state::State;
-use gw_values::{key_of, units_of};
+use gw_values::{Context, key_of, units_of};
 
 /// LINK: the transaction goes to the back of a user chain by FIFO, to the front by LIFO.
 pub fn decide_link(
-    state: &State,
-    case: Case,
-    asker: &Asker,
+    at: Context,
     notes: &mut Notes,
     id: StatementId,
     entity: Option<&Expr>,
     order: Option<&Expr>,
 ) -> Result<Move, Halt>
-    ensures { Decides case.entry.version.now case.entry.seed
-        (link_prog state.now asker.now id (option_copied entity.entry) (option_copied order.entry))
+    ensures { Decides at.entry.case.version.now at.entry.case.seed
+        (link_prog at.entry.state.now at.entry.asker.now id (option_copied entity.entry) (option_copied order.entry))
         result notes.old notes.new }
 {
     let Some(expr) = order else {
@@ -33,7 +30,7 @@ pub fn decide_link(
     };
     match expr.node() {
         Node::Order(discipline) => {
-            let key = key_of(state, case, asker, notes, entity)?;
+            let key = key_of(at, notes, entity)?;
             Ok(link_to(id, key, *discipline))
         }
         _ => Err(Halt::stop(Stop::NoNextBlock)),
@@ -43,41 +40,33 @@ pub fn decide_link(
 /// UNLINK: so many from the front of a user chain, or all, go to the block with the label, which is asked for only
 /// where somebody goes. X11 where the count is below 1.
 pub fn decide_unlink(
-    state: &State,
-    case: Case,
-    asker: &Asker,
+    at: Context,
     notes: &mut Notes,
     id: StatementId,
     entity: Option<&Expr>,
     label: Option<&Expr>,
     count: Option<&Expr>,
 ) -> Result<Move, Halt>
-    ensures { Decides case.entry.version.now case.entry.seed
-        (unlink_prog state.now asker.now id (option_copied entity.entry) (option_copied label.entry)
+    ensures { Decides at.entry.case.version.now at.entry.case.seed
+        (unlink_prog at.entry.state.now at.entry.asker.now id (option_copied entity.entry) (option_copied label.entry)
         (option_copied count.entry)) result notes.old notes.new }
 {
-    let key = key_of(state, case, asker, notes, entity)?;
-    let there = state.linked().len(&key) as u64;
-    let count = leaving(state, case, asker, notes, count, there)?;
-    unlink_count(case, notes, id, key, label, count)
+    let key = key_of(at, notes, entity)?;
+    let there = at.state.linked().len(&key) as u64;
+    let count = leaving(at, notes, count, there)?;
+    unlink_count(at.case, notes, id, key, label, count)
 }
 
 // How many leave of so many: all, or no more than the count says.
-fn leaving(
-    state: &State,
-    case: Case,
-    asker: &Asker,
-    notes: &mut Notes,
-    count: Option<&Expr>,
-    there: u64,
-) -> Result<u64, Halt>
-    ensures { Decides case.entry.version.now case.entry.seed
-        (leaving_prog state.now asker.now (option_copied count.entry) there) result notes.old notes.new }
+fn leaving(at: Context, notes: &mut Notes, count: Option<&Expr>, there: u64) -> Result<u64, Halt>
+    ensures { Decides at.entry.case.version.now at.entry.case.seed
+        (leaving_prog at.entry.state.now at.entry.asker.now (option_copied count.entry) there)
+        result notes.old notes.new }
 {
     let Some(expr) = count else {
         return Ok(there);
     };
-    let units = units_of(state, case, asker, notes, Some(expr))?;
+    let units = units_of(at, notes, Some(expr))?;
     Ok(u64::from(units).min(there))
 }
 

@@ -7,52 +7,48 @@ ghost use Rattle.gw_asking.specs.Deciding.{Decides, Comes};
 use crate::entering::enter_with;
 use gw_asking::{Case, Notes, ask_label};
 use gw_expr::{Expr, Halt, Node, Operator, Stop};
-use gw_meaning::{Asker, Auxiliary, Move, StatementId, TransactionChange};
+use gw_meaning::{Auxiliary, Move, StatementId, TransactionChange};
 use gw_names::Key;
 use gw_nums::{ArithmeticFault, Val};
-use gw_state::State;
-use gw_values::{key_of, value_there};
+use gw_values::{Context, key_of, value_there};
 
 /// ASSIGN: a parameter is set, or B is added to it or taken from it; an absent one counts as 0 then. X7 where what
 /// comes of it is no value.
 pub fn decide_assign(
-    state: &State,
-    case: Case,
-    asker: &Asker,
+    at: Context,
     notes: &mut Notes,
     id: StatementId,
     sign: Auxiliary,
     parameter: Option<&Expr>,
     value: Option<&Expr>,
 ) -> Result<Move, Halt>
-    ensures { Decides case.entry.version.now case.entry.seed
-        (assign_prog state.now asker.now id sign (option_copied parameter.entry) (option_copied value.entry))
+    ensures { Decides at.entry.case.version.now at.entry.case.seed
+        (assign_prog at.entry.state.now at.entry.asker.now id sign (option_copied parameter.entry)
+        (option_copied value.entry))
         result notes.old notes.new }
 {
-    let key = key_of(state, case, asker, notes, parameter)?;
-    let value = value_there(state, case, asker, notes, value)?;
-    let was = state.parameters().get(asker.number, &key);
+    let key = key_of(at, notes, parameter)?;
+    let value = value_there(at, notes, value)?;
+    let was = at.state.parameters().get(at.asker.number, &key);
     assign_with(id, sign, key, was, value)
 }
 
 /// LOOP: a parameter loses 1, and the transaction goes to the block with the label while it is not 0. X5 where it is
 /// absent, X7 where what is left is no value.
 pub fn decide_loop(
-    state: &State,
-    case: Case,
-    asker: &Asker,
+    at: Context,
     notes: &mut Notes,
     id: StatementId,
     parameter: Option<&Expr>,
     label: Option<&Expr>,
 ) -> Result<Move, Halt>
-    ensures { Decides case.entry.version.now case.entry.seed
-        (loop_prog state.now asker.now id (option_copied parameter.entry) (option_copied label.entry))
+    ensures { Decides at.entry.case.version.now at.entry.case.seed
+        (loop_prog at.entry.state.now at.entry.asker.now id (option_copied parameter.entry) (option_copied label.entry))
         result notes.old notes.new }
 {
-    let key = key_of(state, case, asker, notes, parameter)?;
-    let left = left_of(state.parameters().get(asker.number, &key))?;
-    loop_with(case, notes, id, key, left, label)
+    let key = key_of(at, notes, parameter)?;
+    let left = left_of(at.state.parameters().get(at.asker.number, &key))?;
+    loop_with(at.case, notes, id, key, left, label)
 }
 
 fn assign_with(

@@ -4,25 +4,23 @@ ghost use Rattle.gw_meaning.specs.Step.{mark_prog, priority_prog};
 ghost use Rattle.gw_asking.specs.Deciding.{Decides, Comes};
 
 use crate::entering::enter_with;
-use gw_asking::{Case, Notes};
+use gw_asking::Notes;
 use gw_expr::{Expr, Halt};
-use gw_meaning::{Asker, Move, StatementId, TransactionChange};
-use gw_state::State;
-use gw_values::value_there;
+use gw_meaning::{Move, StatementId, TransactionChange};
+use gw_values::{Context, value_there};
 
 /// PRIORITY: the transaction gets another priority, and stays active.
 pub fn decide_priority(
-    state: &State,
-    case: Case,
-    asker: &Asker,
+    at: Context,
     notes: &mut Notes,
     id: StatementId,
     priority: Option<&Expr>,
 ) -> Result<Move, Halt>
-    ensures { Decides case.entry.version.now case.entry.seed
-        (priority_prog state.now asker.now id (option_copied priority.entry)) result notes.old notes.new }
+    ensures { Decides at.entry.case.version.now at.entry.case.seed
+        (priority_prog at.entry.state.now at.entry.asker.now id (option_copied priority.entry))
+        result notes.old notes.new }
 {
-    let to = value_there(state, case, asker, notes, priority)?;
+    let to = value_there(at, notes, priority)?;
     Ok(enter_with(id, TransactionChange::Priority { to }))
 }
 

@@ -4,53 +4,50 @@ ghost use Rattle.gw_meaning.specs.Step.{is_too_many, queue_units, queue_prog, de
 ghost use Rattle.gw_asking.specs.Deciding.{Decides, Comes};
 
 use crate::entering::enter_doing;
-use gw_asking::{Case, Notes};
+use gw_asking::Notes;
 use gw_entities::Queue;
 use gw_expr::{Expr, Halt, Stop};
-use gw_meaning::{Asker, Deed, Move, QueueDeed, StatementId, Transaction};
+use gw_meaning::{Deed, Move, QueueDeed, StatementId, Transaction};
 use gw_names::Key;
-use gw_state::State;
-use gw_values::{key_of, units_of};
+use gw_values::{Context, key_of, units_of};
 
 /// QUEUE: units come to a queue. X12 where its content or its entries would be above 1,000,000,000.
 pub fn decide_queue(
-    state: &State,
-    case: Case,
-    asker: &Asker,
+    at: Context,
     notes: &mut Notes,
     id: StatementId,
     entity: Option<&Expr>,
     units: Option<&Expr>,
 ) -> Result<Move, Halt>
-    ensures { Decides case.entry.version.now case.entry.seed
-        (queue_prog state.now asker.now id (option_copied entity.entry) (option_copied units.entry)) result notes.old notes.new }
+    ensures { Decides at.entry.case.version.now at.entry.case.seed
+        (queue_prog at.entry.state.now at.entry.asker.now id (option_copied entity.entry)
+        (option_copied units.entry)) result notes.old notes.new }
 {
-    let key = key_of(state, case, asker, notes, entity)?;
-    let units = units_of(state, case, asker, notes, units)?;
-    let line = state.entities().queue(&key);
+    let key = key_of(at, notes, entity)?;
+    let units = units_of(at, notes, units)?;
+    let line = at.state.entities().queue(&key);
     queue_units(id, key, line, u64::from(units))
 }
 
 /// DEPART: units leave a queue, as zero entries where the transaction came in this tick. X4 where fewer are there, X12
 /// where the zero entries would be above 1,000,000,000.
 pub fn decide_depart(
-    state: &State,
-    case: Case,
-    asker: &Asker,
+    at: Context,
     notes: &mut Notes,
     x: &Transaction,
     id: StatementId,
     entity: Option<&Expr>,
     units: Option<&Expr>,
 ) -> Result<Move, Halt>
-    ensures { Decides case.entry.version.now case.entry.seed
-        (depart_prog state.now asker.now x.now id (option_copied entity.entry) (option_copied units.entry))
+    ensures { Decides at.entry.case.version.now at.entry.case.seed
+        (depart_prog at.entry.state.now at.entry.asker.now x.now id (option_copied entity.entry)
+        (option_copied units.entry))
         result notes.old notes.new }
 {
-    let key = key_of(state, case, asker, notes, entity)?;
-    let units = units_of(state, case, asker, notes, units)?;
-    let line = state.entities().queue(&key);
-    let at_once = state.entities().has_come(&key, x.number);
+    let key = key_of(at, notes, entity)?;
+    let units = units_of(at, notes, units)?;
+    let line = at.state.entities().queue(&key);
+    let at_once = at.state.entities().has_come(&key, x.number);
     depart_units(id, key, line, at_once, u64::from(units))
 }
 

@@ -5,33 +5,31 @@ ghost use Rattle.gw_asking.specs.Deciding.{Decides, Comes};
 
 use crate::entering::enter_doing;
 use crate::parameters::{arithmetic, by_sign};
-use gw_asking::{Case, Notes};
+use gw_asking::Notes;
 use gw_expr::{Expr, Halt};
-use gw_meaning::{Asker, Auxiliary, Deed, Move, StatementId};
+use gw_meaning::{Auxiliary, Deed, Move, StatementId};
 use gw_names::Key;
 use gw_nums::Val;
-use gw_state::State;
-use gw_values::{key_of, value_there};
+use gw_values::{Context, key_of, value_there};
 
 /// SAVEVALUE: a savevalue is set to the value of B, or that is added to it or taken from it. X7 where what comes of it
 /// is no value.
 pub fn decide_savevalue(
-    state: &State,
-    case: Case,
-    asker: &Asker,
+    at: Context,
     notes: &mut Notes,
     id: StatementId,
     sign: Auxiliary,
     entity: Option<&Expr>,
     value: Option<&Expr>,
 ) -> Result<Move, Halt>
-    ensures { Decides case.entry.version.now case.entry.seed
-        (savevalue_prog state.now asker.now id sign (option_copied entity.entry) (option_copied value.entry))
+    ensures { Decides at.entry.case.version.now at.entry.case.seed
+        (savevalue_prog at.entry.state.now at.entry.asker.now id sign (option_copied entity.entry)
+        (option_copied value.entry))
         result notes.old notes.new }
 {
-    let key = key_of(state, case, asker, notes, entity)?;
-    let value = value_there(state, case, asker, notes, value)?;
-    let was = state.entities().savevalue(&key);
+    let key = key_of(at, notes, entity)?;
+    let value = value_there(at, notes, value)?;
+    let was = at.state.entities().savevalue(&key);
     savevalue_with(id, sign, key, was, value)
 }
 

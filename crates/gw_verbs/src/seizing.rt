@@ -5,46 +5,43 @@ ghost use Rattle.gw_meaning.specs.Step.{seize_or_wait, seize_prog, first_number,
 ghost use Rattle.gw_asking.specs.Deciding.{Decides, Comes};
 
 use crate::entering::enter_doing;
-use gw_asking::{Case, Notes};
+use gw_asking::Notes;
 use gw_expr::{Expr, Halt, Stop};
-use gw_meaning::{Asker, Deed, FacilityDeed, Move, StatementId, Transaction};
+use gw_meaning::{Deed, FacilityDeed, Move, StatementId, Transaction};
 use gw_names::Key;
 use gw_state::State;
-use gw_values::key_of;
+use gw_values::{Context, key_of};
 
 /// SEIZE: a facility is taken, or waited for where it is owned, also by the transaction itself.
 pub fn decide_seize(
-    state: &State,
-    case: Case,
-    asker: &Asker,
+    at: Context,
     notes: &mut Notes,
     id: StatementId,
     entity: Option<&Expr>,
 ) -> Result<Move, Halt>
-    ensures { Decides case.entry.version.now case.entry.seed
-        (seize_prog state.now asker.now id (option_copied entity.entry)) result notes.old notes.new }
+    ensures { Decides at.entry.case.version.now at.entry.case.seed
+        (seize_prog at.entry.state.now at.entry.asker.now id (option_copied entity.entry)) result notes.old notes.new }
 {
-    let key = key_of(state, case, asker, notes, entity)?;
-    let owned = state.entities().facility(&key).is_owned();
+    let key = key_of(at, notes, entity)?;
+    let owned = at.state.entities().facility(&key).is_owned();
     seize_or_wait(id, key, owned)
 }
 
 /// RELEASE: the owner gives a facility back, to the first that waits for it. X2 where the transaction does not own it.
 pub fn decide_release(
-    state: &State,
-    case: Case,
-    asker: &Asker,
+    at: Context,
     notes: &mut Notes,
     x: &Transaction,
     id: StatementId,
     entity: Option<&Expr>,
 ) -> Result<Move, Halt>
-    ensures { Decides case.entry.version.now case.entry.seed
-        (release_prog state.now asker.now x.now id (option_copied entity.entry)) result notes.old notes.new }
+    ensures { Decides at.entry.case.version.now at.entry.case.seed
+        (release_prog at.entry.state.now at.entry.asker.now x.now id (option_copied entity.entry))
+        result notes.old notes.new }
 {
-    let key = key_of(state, case, asker, notes, entity)?;
-    let owns = is_owner(state.entities().facility(&key).owner(), x.number);
-    let next = first_waiting(state, &key);
+    let key = key_of(at, notes, entity)?;
+    let owns = is_owner(at.state.entities().facility(&key).owner(), x.number);
+    let next = first_waiting(at.state, &key);
     release_to(id, key, owns, next)
 }
 

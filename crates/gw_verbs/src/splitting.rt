@@ -7,49 +7,46 @@ ghost use Rattle.gw_asking.specs.Deciding.{Decides, Comes};
 use crate::entering::enter_bringing;
 use gw_asking::{Case, Notes, ask_label};
 use gw_expr::{Expr, Halt, Node, Stop};
-use gw_meaning::{Asker, Change, Destination, Move, StatementId};
+use gw_meaning::{Change, Destination, Move, StatementId};
 use gw_nums::Val;
 use gw_state::State;
-use gw_values::{LIVE_LIMIT, value_there};
+use gw_values::{Context, LIVE_LIMIT, value_there};
 
 /// SPLIT: as many copies are made as A says. They go to the block with the label, or on from their own. X11 where A is
 /// below 0, X9 where more than 100,000 transactions would live.
 pub fn decide_split(
-    state: &State,
-    case: Case,
-    asker: &Asker,
+    at: Context,
     notes: &mut Notes,
     id: StatementId,
     copies: Option<&Expr>,
     label: Option<&Expr>,
 ) -> Result<Move, Halt>
-    ensures { Decides case.entry.version.now case.entry.seed
-        (split_prog state.now asker.now id (option_copied copies.entry) (option_copied label.entry))
+    ensures { Decides at.entry.case.version.now at.entry.case.seed
+        (split_prog at.entry.state.now at.entry.asker.now id (option_copied copies.entry) (option_copied label.entry))
         result notes.old notes.new }
 {
-    let copies = value_there(state, case, asker, notes, copies)?;
-    split_value(state, case, notes, id, label, copies)
+    let copies = value_there(at, notes, copies)?;
+    split_value(at, notes, id, label, copies)
 }
 
 fn split_value(
-    state: &State,
-    case: Case,
+    at: Context,
     notes: &mut Notes,
     id: StatementId,
     label: Option<&Expr>,
     copies: Val,
 ) -> Result<Move, Halt>
-    ensures { Decides case.entry.version.now case.entry.seed
-        (split_value state.now id (option_copied label.entry) copies) result notes.old notes.new }
+    ensures { Decides at.entry.case.version.now at.entry.case.seed
+        (split_value at.entry.state.now id (option_copied label.entry) copies) result notes.old notes.new }
 {
     if copies.is_negative() {
         return Err(Halt::stop(Stop::BadCount));
     }
     let count = copies.magnitude();
-    if is_too_full(state, count) {
+    if is_too_full(at.state, count) {
         return Err(Halt::stop(Stop::TooManyTransactions));
     }
-    split_count(case, notes, id, label, count)
+    split_count(at.case, notes, id, label, count)
 }
 
 // Whether so many more may not live.

@@ -10,30 +10,28 @@ use crate::shares::{all_shares, beside, shares_of};
 use gw_asking::{Case, Notes, ask_fits};
 use gw_entities::Storage;
 use gw_expr::{Expr, Halt, Node, Row, Stop};
-use gw_meaning::{Asker, Deed, Move, StatementId, StorageDeed};
+use gw_meaning::{Deed, Move, StatementId, StorageDeed};
 use gw_names::{Key, StorageName};
-use gw_state::State;
-use gw_values::units_of;
+use gw_values::{Context, units_of};
 
 /// ENTER: units of a storage come into use, whoever waits, or are waited for where they do not fit. X12 where the
 /// storage has fewer, or its entries would be above 1,000,000,000.
 pub fn decide_enter(
-    state: &State,
-    case: Case,
-    asker: &Asker,
+    at: Context,
     notes: &mut Notes,
     id: StatementId,
     storage: Option<&Expr>,
     units: Option<&Expr>,
 ) -> Result<Move, Halt>
-    ensures { Decides case.entry.version.now case.entry.seed
-        (enter_prog state.now asker.now id (option_copied storage.entry) (option_copied units.entry)) result notes.old notes.new }
+    ensures { Decides at.entry.case.version.now at.entry.case.seed
+        (enter_prog at.entry.state.now at.entry.asker.now id (option_copied storage.entry)
+        (option_copied units.entry)) result notes.old notes.new }
 {
     let Some(expr) = storage else {
         return Err(Halt::stop(Stop::Range));
     };
     match expr.node() {
-        Node::Defined(name) => { enter_defined(state, case, asker, notes, id, name, units) }
+        Node::Defined(name) => { enter_defined(at, notes, id, name, units) }
         _ => Err(Halt::stop(Stop::Range)),
     }
 }
@@ -41,85 +39,79 @@ pub fn decide_enter(
 // An ENTER of the storage with this name: it is asked whether the empty storage holds the units, and then whether
 // they fit beside those in use.
 fn enter_defined(
-    state: &State,
-    case: Case,
-    asker: &Asker,
+    at: Context,
     notes: &mut Notes,
     id: StatementId,
     name: &StorageName,
     units: Option<&Expr>,
 ) -> Result<Move, Halt>
-    ensures { Decides case.entry.version.now case.entry.seed
-        (enter_prog state.now asker.now id (Some (Defined name.now)) (option_copied units.entry))
+    ensures { Decides at.entry.case.version.now at.entry.case.seed
+        (enter_prog at.entry.state.now at.entry.asker.now id (Some (Defined name.now)) (option_copied units.entry))
         result notes.old notes.new }
 {
-    let units = units_of(state, case, asker, notes, units)?;
-    let large = ask_fits(case.version, notes, name.name(), u64::from(units))?;
-    let storage = state.entities().storage(name.key());
-    enter_storage(case, notes, id, name, storage, units, large)
+    let units = units_of(at, notes, units)?;
+    let large = ask_fits(at.case.version, notes, name.name(), u64::from(units))?;
+    let storage = at.state.entities().storage(name.key());
+    enter_storage(at.case, notes, id, name, storage, units, large)
 }
 
 /// LEAVE: units of a storage are given back, and those of its delay chain whose units fit by then are let in, from the
 /// front. X3 where fewer are in use, X12 where the entries would be above 1,000,000,000.
 pub fn decide_leave(
-    state: &State,
-    case: Case,
-    asker: &Asker,
+    at: Context,
     notes: &mut Notes,
     id: StatementId,
     storage: Option<&Expr>,
     units: Option<&Expr>,
 ) -> Result<Move, Halt>
-    ensures { Decides case.entry.version.now case.entry.seed
-        (leave_prog state.now asker.now id (option_copied storage.entry) (option_copied units.entry)) result notes.old notes.new }
+    ensures { Decides at.entry.case.version.now at.entry.case.seed
+        (leave_prog at.entry.state.now at.entry.asker.now id (option_copied storage.entry)
+        (option_copied units.entry)) result notes.old notes.new }
 {
     let Some(expr) = storage else {
         return Err(Halt::stop(Stop::Range));
     };
     match expr.node() {
-        Node::Defined(name) => { leave_defined(state, case, asker, notes, id, name, units) }
+        Node::Defined(name) => { leave_defined(at, notes, id, name, units) }
         _ => Err(Halt::stop(Stop::Range)),
     }
 }
 
 // A LEAVE of the storage with this name.
 fn leave_defined(
-    state: &State,
-    case: Case,
-    asker: &Asker,
+    at: Context,
     notes: &mut Notes,
     id: StatementId,
     name: &StorageName,
     units: Option<&Expr>,
 ) -> Result<Move, Halt>
-    ensures { Decides case.entry.version.now case.entry.seed
-        (leave_prog state.now asker.now id (Some (Defined name.now)) (option_copied units.entry))
+    ensures { Decides at.entry.case.version.now at.entry.case.seed
+        (leave_prog at.entry.state.now at.entry.asker.now id (Some (Defined name.now)) (option_copied units.entry))
         result notes.old notes.new }
 {
-    let units = units_of(state, case, asker, notes, units)?;
-    let storage = state.entities().storage(name.key());
-    leave_units(state, case, notes, id, name, storage, u64::from(units))
+    let units = units_of(at, notes, units)?;
+    let storage = at.state.entities().storage(name.key());
+    leave_units(at, notes, id, name, storage, u64::from(units))
 }
 
 // No more units are given back than are in use.
 fn leave_units(
-    state: &State,
-    case: Case,
+    at: Context,
     notes: &mut Notes,
     id: StatementId,
     name: &StorageName,
     storage: Storage,
     units: u64,
 ) -> Result<Move, Halt>
-    ensures { Decides case.entry.version.now case.entry.seed
-        (leave_units state.now id name.now storage units) result notes.old notes.new }
+    ensures { Decides at.entry.case.version.now at.entry.case.seed
+        (leave_units at.entry.state.now id name.now storage units) result notes.old notes.new }
 {
     let content = storage.level().content();
     if content < units {
         return Err(Halt::stop(Stop::LeaveTooMany));
     }
-    let chain = state.delays().chain(name.key());
-    let shares = shares_of(case, notes, name.name(), chain, content - units)?;
+    let chain = at.state.delays().chain(name.key());
+    let shares = shares_of(at.case, notes, name.name(), chain, content - units)?;
     leave_for(id, name.key().clone()?, storage, units, shares)
 }
 

@@ -4,47 +4,42 @@ ghost use Rattle.gw_meaning.specs.Step.{switched, logic_of, logic_prog};
 ghost use Rattle.gw_asking.specs.Deciding.{Decides};
 
 use crate::entering::enter_doing;
-use gw_asking::{Case, Notes};
+use gw_asking::Notes;
 use gw_expr::{Expr, Halt, Stop};
-use gw_meaning::{Asker, Auxiliary, Deed, Move, StatementId, Switching};
-use gw_state::State;
-use gw_values::key_of;
+use gw_meaning::{Auxiliary, Deed, Move, StatementId, Switching};
+use gw_values::{Context, key_of};
 
 /// LOGIC: a switch is set, reset or inverted, as the operator says.
 pub fn decide_logic(
-    state: &State,
-    case: Case,
-    asker: &Asker,
+    at: Context,
     notes: &mut Notes,
     id: StatementId,
     operator: Auxiliary,
     entity: Option<&Expr>,
 ) -> Result<Move, Halt>
-    ensures { Decides case.entry.version.now case.entry.seed
-        (logic_prog state.now asker.now id operator (option_copied entity.entry)) result notes.old notes.new }
+    ensures { Decides at.entry.case.version.now at.entry.case.seed
+        (logic_prog at.entry.state.now at.entry.asker.now id operator (option_copied entity.entry))
+        result notes.old notes.new }
 {
     match operator {
-        Auxiliary::Logic(switching) => {
-            logic_of(state, case, asker, notes, id, switching, entity)
-        }
+        Auxiliary::Logic(switching) => { logic_of(at, notes, id, switching, entity) }
         _ => Err(Halt::stop(Stop::NoNextBlock)),
     }
 }
 
 fn logic_of(
-    state: &State,
-    case: Case,
-    asker: &Asker,
+    at: Context,
     notes: &mut Notes,
     id: StatementId,
     switching: Switching,
     entity: Option<&Expr>,
 ) -> Result<Move, Halt>
-    ensures { Decides case.entry.version.now case.entry.seed
-        (logic_of state.now asker.now id switching (option_copied entity.entry)) result notes.old notes.new }
+    ensures { Decides at.entry.case.version.now at.entry.case.seed
+        (logic_of at.entry.state.now at.entry.asker.now id switching (option_copied entity.entry))
+        result notes.old notes.new }
 {
-    let key = key_of(state, case, asker, notes, entity)?;
-    let set = switched(switching, state.entities().is_set(&key));
+    let key = key_of(at, notes, entity)?;
+    let set = switched(switching, at.state.entities().is_set(&key));
     Ok(enter_doing(id, key, Deed::Switch { set }))
 }
 

@@ -5,51 +5,47 @@ ghost use Rattle.gw_meaning.specs.Step.{tabulate_prog, tabulate_with};
 ghost use Rattle.gw_asking.specs.Deciding.{Decides};
 
 use crate::entering::enter_doing;
-use gw_asking::{Case, Notes, ask_argument};
+use gw_asking::{Notes, ask_argument};
 use gw_expr::{Expr, Halt, Node, Stop};
-use gw_meaning::{Asker, Deed, Move, StatementId};
+use gw_meaning::{Deed, Move, StatementId};
 use gw_names::{Key, Name};
-use gw_state::State;
-use gw_values::value_there;
+use gw_values::{Context, value_there};
 
 /// TABULATE: the argument of a table is evaluated for the transaction, and its value comes to the table's others.
 pub fn decide_tabulate(
-    state: &State,
-    case: Case,
-    asker: &Asker,
+    at: Context,
     notes: &mut Notes,
     id: StatementId,
     table: Option<&Expr>,
 ) -> Result<Move, Halt>
-    ensures { Decides case.entry.version.now case.entry.seed
-        (tabulate_prog state.now asker.now id (option_copied table.entry)) result notes.old notes.new }
+    ensures { Decides at.entry.case.version.now at.entry.case.seed
+        (tabulate_prog at.entry.state.now at.entry.asker.now id (option_copied table.entry))
+        result notes.old notes.new }
 {
     let Some(expr) = table else {
         return Err(Halt::stop(Stop::Range));
     };
     match expr.node() {
         Node::Table(name) => {
-            let argument = ask_argument(case.version, notes, name)?;
-            tabulate_with(state, case, asker, notes, id, name, argument)
+            let argument = ask_argument(at.case.version, notes, name)?;
+            tabulate_with(at, notes, id, name, argument)
         }
         _ => Err(Halt::stop(Stop::Range)),
     }
 }
 
 fn tabulate_with(
-    state: &State,
-    case: Case,
-    asker: &Asker,
+    at: Context,
     notes: &mut Notes,
     id: StatementId,
     name: &Name,
     argument: Option<&Expr>,
 ) -> Result<Move, Halt>
-    ensures { Decides case.entry.version.now case.entry.seed
-        (tabulate_with state.now asker.now id (keys.Defined name.now) (option_copied argument.entry))
+    ensures { Decides at.entry.case.version.now at.entry.case.seed
+        (tabulate_with at.entry.state.now at.entry.asker.now id (keys.Defined name.now) (option_copied argument.entry))
         result notes.old notes.new }
 {
-    let value = value_there(state, case, asker, notes, argument)?;
+    let value = value_there(at, notes, argument)?;
     let key = Key::Defined(name.clone()?);
     Ok(enter_doing(id, key, Deed::Table { value }))
 }

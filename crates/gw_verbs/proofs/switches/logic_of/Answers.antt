@@ -11,19 +11,19 @@ use Rattle.gw_verbs.proofs.switches.logic_of.Goals as goal
 
 pub returns-in_err-key : goal.returns-in_err-key
 returns-in_err-key c =
-    let t = c.args.case.version.now in
-    let seed = c.args.case.seed in
-    let s = c.args.state.now in
-    let q = c.args.asker.now in
+    let t = c.args.at.case.version.now in
+    let seed = c.args.at.case.seed in
+    let s = c.args.at.state.now in
+    let q = c.args.at.asker.now in
     let rest : Key → Eval Move = λ key. logic_to c.args.id key (switched c.args.switching (switch_at s.entities key)) in
     decides_left t seed (entity_prog s q (option_copied c.args.entity)) rest _ c.in_err-key.field-0.0 _ _ c.from_residual.ensures.1 c.in_err-key.ensures
 
 pub returns : goal.returns
 returns c =
-    let t = c.args.case.version.now in
-    let seed = c.args.case.seed in
-    let s = c.args.state.now in
-    let q = c.args.asker.now in
+    let t = c.args.at.case.version.now in
+    let seed = c.args.at.case.seed in
+    let s = c.args.at.state.now in
+    let q = c.args.at.asker.now in
     let rest : Key → Eval Move = λ key. logic_to c.args.id key (switched c.args.switching (switch_at s.entities key)) in
     let key = c.in_ok-key.key in
     let set : c.switched-set.result ≡ switched c.args.switching (switch_at s.entities key) = search rules in
