@@ -39,7 +39,7 @@ returns-in_err-value-clause-decided c =
     let p = err_from_is_err_and c.from_residual-in_err-value.result c.from_residual-in_err-value.ensures.1 in
     decides_then t seed (watched_prog class of) valued more _ _ _ _ c.in_ok-thing.ensures
     (decides_exit t seed (attribute_prog w.at.state.now w.at.asker.now class of) last _ _ _ c.in_err-value.field-0.0 _ _ refl
-    (ap (λ (r : Result ℤ Halt). with_read r read) p.1) p.2 c.in_err-value.ensures)
+    (ap (λ (r : Result ℤ Halt). with_read r read) p.1) p.2 c.in_err-value.ensures.0)
 
 pub returns-clause-decided : goal.returns-clause-decided
 returns-clause-decided c =
@@ -56,7 +56,7 @@ returns-clause-decided c =
     let v = c.in_ok-value.value in
     let both : ℤ × List Watched = (v, with_all_watched read more) in
     rw c.in_ok-keep.ensures
-    (decides_then t seed (watched_prog class of) valued more (Ok both) w.notes.now c.watched.new.notes c.attribute.new.notes c.in_ok-thing.ensures
-    (decides_then t seed (attribute_prog w.at.state.now w.at.asker.now class of) last v (Ok both) c.watched.new.notes c.attribute.new.notes c.attribute.new.notes
-    c.in_ok-value.ensures
-    (decides_gives t seed both c.attribute.new.notes)))
+    (decides_then t seed (watched_prog class of) valued more (Ok both) w.notes.now c.watched.new.notes c.attribute.new.self.notes.now c.in_ok-thing.ensures
+    (decides_then t seed (attribute_prog w.at.state.now w.at.asker.now class of) last v (Ok both) c.watched.new.notes c.attribute.new.self.notes.now c.attribute.new.self.notes.now
+    c.in_ok-value.ensures.0
+    (decides_gives t seed both c.attribute.new.self.notes.now)))
