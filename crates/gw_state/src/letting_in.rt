@@ -62,8 +62,7 @@ fn reserve_first(
         return Err(AllocError);
     };
     current.reserve(all)?;
-    let place = delays.waiting_place(key);
-    match delays.first_at(key, place) {
+    match delays.first(key) {
         Some(x) => reserve_block(x, counts),
         None => Ok(()),
     }
@@ -88,8 +87,7 @@ fn reserve_some(
     ensures counts { counts.new.entries ≡ counts.old.entries }
     ensures limit { counts.old.limit ≤ counts.new.limit }
 {
-    let place = delays.waiting_place(key);
-    let Some(chain) = delays.chain_at(key, place) else {
+    let Some(chain) = delays.chain(key) else {
         current.reserve(others)?;
         return Ok(());
     };
@@ -98,7 +96,7 @@ fn reserve_some(
         return Err(AllocError);
     };
     current.reserve(all)?;
-    delays.reserve_at(key, place, count)
+    delays.reserve(key, count)
 }
 
 // Makes room for the counts of the blocks at which those with a share wait. Returns how many they are.
@@ -161,8 +159,7 @@ pub fn admit(
             let_first_in(delays, current, counts, key);
         }
         Deed::Storage(StorageDeed::Leave { shares, .. }) => {
-            let place = delays.waiting_place(key);
-            delays.let_in_some_at(key, place, shares.as_slice(), current, counts);
+            delays.let_in_some(key, shares.as_slice(), current, counts);
         }
         _ => (),
     }
@@ -186,8 +183,7 @@ fn let_first_in(
     ensures room { current.old.room ≤ current.new.room +
         length (with_share (Some 1 ∷ []) (delay_at (delays_of delays.old) key.now)) }
 {
-    let place = delays.waiting_place(key);
-    if let Some(x) = delays.take_first_at(key, place) {
+    if let Some(x) = delays.take_first(key) {
         let_in(current, counts, x);
     }
 }
