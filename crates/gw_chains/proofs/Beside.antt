@@ -71,9 +71,9 @@ pub record There (ks : List Key) (cs : List Own) (i : ℕ) (key : Key) (was : Ow
   pub queue : delay_at (delays_of (chains_of ks cs)) key ≡ was.items
   pub most : length was.items ≤ count
 
-pub there : (ks : List Key) (cs : List Own) (i : ℕ) (key : Key) (was : Own) (count : ℕ) → AreKept ks cs count →
+pub there : {ks : List Key} {cs : List Own} {i : ℕ} {key : Key} {was : Own} {count : ℕ} → AreKept ks cs count →
     slice_get ks i ≡ Some key → i < length cs → was ≡ get_or cs i was → There ks cs i key was count
-there ks cs i key was count kept placed inside read =
+there {ks} {cs} {i} {key} {was} kept placed inside read =
     let is = get_or_read cs i was inside read nobody in
     let value = found ks cs i key kept.apart placed ∙ ap (λ o. Some o) (sym is) in
     let queue = delay_is (chains_of ks cs) key (Some was) value in
@@ -101,10 +101,10 @@ pub key_there : (ks : List Key) (cs : List Own) (es : Pairs) (i : ℕ) (key : Ke
     slice_get (keys_of es) i ≡ Some key → slice_get ks i ≡ Some key
 key_there ks cs es i key seen placed = ap (λ qs. slice_get qs i) (sym (keys_are ks cs) ∙ ap keys_of seen) ∙ placed
 
-pub within : (ks : List Key) (cs : List Own) (es : Pairs) (i : ℕ) (key : Key) (count n : ℕ) →
+pub within : {ks : List Key} {cs : List Own} {es : Pairs} {i : ℕ} {key : Key} {count n : ℕ} →
     AreKept ks cs count → chains_of ks cs ≡ es → slice_get (keys_of es) i ≡ Some key →
     0 < length (delay_at (delays_of es) key) → n ≡ length cs → i < n
-within ks cs es i key count n kept seen placed some long =
+within {ks} {cs} {es} {i} {key} kept seen placed some long =
     let here = key_there ks cs es i key seen placed in
     let same = ap (λ (fs : Pairs). length (delay_at (delays_of fs) key)) seen in
     let none : length cs ≤ i → delay_at (delays_of (chains_of ks cs)) key ≡ [] =
@@ -114,12 +114,11 @@ within ks cs es i key count n kept seen placed some long =
       | inr behind ↦ absurd (omega (arith, some, same, ap length (none behind)))
     ]
 
-pub waits : (ks : List Key) (cs : List Own) (es : Pairs) (i : ℕ) (key : Key) (was : Own) (count : ℕ) →
+pub waits : {ks : List Key} {cs : List Own} {es : Pairs} {i : ℕ} {key : Key} {was : Own} {count : ℕ} →
     AreKept ks cs count → chains_of ks cs ≡ es → slice_get (keys_of es) i ≡ Some key →
     0 < length (delay_at (delays_of es) key) → was ≡ get_or cs i was → There ks cs i key was count
-waits ks cs es i key was count kept seen placed some =
-    there ks cs i key was count kept (key_there ks cs es i key seen placed)
-    (within ks cs es i key count (length cs) kept seen placed some refl)
+waits {ks} {cs} {es} {i} {key} kept seen placed some =
+    there kept (key_there ks cs es i key seen placed) (within kept seen placed some refl)
 
 -- what is known of chains with another one written at its place
 pub record Written (ks : List Key) (cs : List Own) (i : ℕ) (key : Key) (own : Own) (count : ℕ) : Type 0 where
@@ -133,10 +132,10 @@ set_at (k ∷ ks) [] i own inside = absurd (omega (arith, inside))
 set_at (k ∷ ks) (c ∷ cs) zero own inside = refl
 set_at (k ∷ ks) (c ∷ cs) (suc i) own inside = let rest = set_at ks cs i own (omega (arith, inside)) in cc
 
-pub written : (ks : List Key) (cs : List Own) (i : ℕ) (key : Key) (was own : Own) (before after : ℕ) →
+pub written : {ks : List Key} {cs : List Own} {i : ℕ} {key : Key} {was own : Own} {before after : ℕ} →
     There ks cs i key was before → before + length own.items ≡ after + length was.items →
     Written ks cs i key own after
-written ks cs i key was own before after at gone =
+written {ks} {cs} {i} {key} {was} {own} at gone =
     let es = chains_of ks cs in
     let short = at.kept.short in
     let all = at.kept.counted in
@@ -156,9 +155,9 @@ written ks cs i key was own before after at gone =
       delays = delays;
     }
 
-pub read_again : (ks : List Key) (cs : List Own) (i : ℕ) (key : Key) (was own : Own) (count : ℕ) →
+pub read_again : {ks : List Key} {cs : List Own} {i : ℕ} {key : Key} {was : Own} {count : ℕ} (own : Own) →
     There ks cs i key was count → value_of (chains_of ks (set cs i own)) key ≡ Some own
-read_again ks cs i key was own count at =
+read_again {ks} {cs} {i} {key} own at =
     found ks (set cs i own) i key at.kept.apart at.placed ∙
     ap (λ o. Some o) (get_or-set_same cs i own nobody at.within)
 
@@ -167,9 +166,9 @@ pub record Same (ks : List Key) (cs ds : List Own) (count : ℕ) : Type 0 where
   pub kept : AreKept ks ds count
   pub delays : delays_of (chains_of ks ds) ≡ delays_of (chains_of ks cs)
 
-pub same : (ks : List Key) (cs ds : List Own) (count : ℕ) → AreKept ks cs count → length ds ≤ length ks →
+same : {ks : List Key} {cs ds : List Own} {count : ℕ} → AreKept ks cs count → length ds ≤ length ks →
     delays_of (chains_of ks ds) ≡ delays_of (chains_of ks cs) → Same ks cs ds count
-same ks cs ds count kept short delays = record {
+same kept short delays = record {
   kept = record {
     apart = kept.apart;
     short = short;
@@ -179,12 +178,12 @@ same ks cs ds count kept short delays = record {
 }
 
 -- where there is one for each key
-pub filled : (ks : List Key) (cs ds : List Own) (n count : ℕ) → AreKept ks cs count → n ≡ length ks →
+pub filled : {ks : List Key} {cs ds : List Own} {n count : ℕ} → AreKept ks cs count → n ≡ length ks →
     length ds ≤ max (length cs) n →
     ((qs : List Key) → delays_of (chains_of qs ds) ≡ delays_of (chains_of qs cs)) → Same ks cs ds count
-filled ks cs ds n count kept all long delays =
+filled {ks} kept all long delays =
     let short = kept.short in
-    same ks cs ds count kept (omega (arith, short, all, long)) (delays ks)
+    same kept (omega (arith, short, all, long)) (delays ks)
 
 same_delays : (ks : List Key) (cs ds : List Own) → queues_of cs ≡ queues_of ds →
     delays_of (chains_of ks cs) ≡ delays_of (chains_of ks ds)
@@ -194,23 +193,23 @@ same_delays (k ∷ ks) [] (d ∷ ds) queues = absurd cc
 same_delays (k ∷ ks) (c ∷ cs) [] queues = absurd cc
 same_delays (k ∷ ks) (c ∷ cs) (d ∷ ds) queues = let rest = same_delays ks cs ds (cc) in cc
 
-pub same_items : (ks : List Key) (cs ds : List Own) (count : ℕ) → AreKept ks cs count →
+pub same_items : {ks : List Key} {cs ds : List Own} {count : ℕ} → AreKept ks cs count →
     queues_of ds ≡ queues_of cs → Same ks cs ds count
-same_items ks cs ds count kept queues =
+same_items {ks} {cs} {ds} kept queues =
     let short = kept.short in
     let as_many : length ds ≡ length cs =
     sym (length-map ds (λ (c : Own). c.items)) ∙ (ap length queues ∙ length-map cs (λ (c : Own). c.items)) in
-    same ks cs ds count kept (omega (arith, as_many, short)) (same_delays ks ds cs queues)
+    same kept (omega (arith, as_many, short)) (same_delays ks ds cs queues)
 
 -- where fewer are kept of them, since nobody waits on the others
-pub fewer : (ks : List Key) (cs ds : List Own) (m count : ℕ) → AreKept ks cs count →
+pub fewer : {ks : List Key} {cs ds : List Own} {count : ℕ} (m : ℕ) → AreKept ks cs count →
     delays_of (chains_of ks (take m cs)) ≡ delays_of (chains_of ks cs) → queues_of ds ≡ queues_of (take m cs) →
     Same ks cs ds count
-fewer ks cs ds m count kept delays queues =
+fewer {ks} {cs} {ds} {count} m kept delays queues =
     let short = kept.short in
     let less = length-take m cs in
-    let front = same ks cs (take m cs) count kept (omega (arith, less, short)) delays in
-    let all = same_items ks (take m cs) ds count front.kept queues in
+    let front : Same ks cs (take m cs) count = same kept (omega (arith, less, short)) delays in
+    let all : Same ks (take m cs) ds count = same_items front.kept queues in
     record { kept = all.kept; delays = all.delays ∙ front.delays }
 
 -- one of them written again with the same transactions
@@ -219,10 +218,9 @@ pub same_queues : (cs : List Own) (i : ℕ) (was own : Own) → was ≡ get_or c
 same_queues cs i was own read items =
     map-set_same (λ (c : Own). c.items) cs i own was (items ∙ ap (λ (c : Own). c.items) read)
 
-pub same_written : (ks : List Key) (cs : List Own) (i : ℕ) (key : Key) (was own : Own) (count : ℕ) →
+pub same_written : {ks : List Key} {cs : List Own} {i : ℕ} {key : Key} {was : Own} {count : ℕ} (own : Own) →
     There ks cs i key was count → own.items ≡ was.items → Same ks cs (set cs i own) count
-same_written ks cs i key was own count at items =
-    same_items ks cs (set cs i own) count at.kept (same_queues cs i was own at.read items)
+same_written own at items = same_items at.kept (same_queues _ _ _ _ at.read items)
 
 -- one more at the end, on which nobody waits, and one less
 pub one_more : (ks : List Key) (cs : List Own) (own : Own) → own.items ≡ [] →

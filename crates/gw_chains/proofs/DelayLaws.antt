@@ -1,6 +1,6 @@
 -- The delay chains by key, and how many wait.
 use Rattle.std.proofs.Common.{◌≡◌, ◌+◌, ◌≤◌, Bool, true, false, cond, List, [], ◌∷◌, length, Bor}
-use Rattle.std.proofs.Common.{refl, sym, Option, Some, None, option_copied, option_map, unwrap_or, ap, ◌∙◌, arith}
+use Rattle.std.proofs.Common.{refl, Option, Some, None, option_copied, option_map, unwrap_or, ap, ◌∙◌, arith}
 use Rattle.std.specs.Prelude.{Result, Ok, Err, OnErr}
 use Rattle.std.proofs.lemmas.List.{length-append}
 use Rattle.std.proofs.lemmas.Bool.{cond_both}
@@ -85,12 +85,9 @@ lined_up_length x (y ∷ ys) =
     (λ below. omega arith) (λ above. (let rest = lined_up_length x ys in omega (arith, rest)))
 
 -- the first of a chain
-true_false : true ≡ false → ⊥
-true_false is = cc
-
 pub first_is : (xs : List Transaction) (o : Option (Bor Transaction)) → IsItemAt xs 0 o →
     option_copied o ≡ first_of xs
 first_is [] None h = refl
-first_is [] (Some x) h = absurd (true_false h.0)
-first_is (y ∷ ys) None h = absurd (true_false (sym (h.2 (omega arith))))
+first_is [] (Some x) h = let none = h.0 in absurd cc
+first_is (y ∷ ys) None h = let some = h.2 (omega arith) in absurd cc
 first_is (y ∷ ys) (Some x) h = ap (λ (z : Transaction). Some z) h.1

@@ -23,7 +23,8 @@ use std::marker::Model;
 #[derive(Drop)]
 pub struct DelayChains {
     keys: KeySet,
-    // The chain of each key, but for the last ones while nobody waits on them: where copies share them, these are left out.
+    // The chain of each key, but for the last ones while nobody waits on them: where copies share them, these are left
+    // out.
     chains: Vec<PriorityChain>,
     // How many wait on all chains.
     count: usize,

@@ -3,12 +3,10 @@ use Rattle.gw_chains.proofs.Beside.{waits, within}
 use Rattle.gw_chains.proofs.delays.DelayChains.chain.Goals as goal
 
 pub index-requires : goal.index-requires
-index-requires c =
-    let placed = c.in_ok-index.ensures.there in
-    within _ _ _ _ _ _ _ c.self.invariant c.self.view_is placed c.in_ok-index.ensures.some (search rules)
+index-requires c = search (rules, within)
 
 pub returns : goal.returns
 returns c =
     let placed = c.in_ok-index.ensures.there in
     rw (← c.self.view_is)
-    (sym (waits _ _ _ _ _ _ _ c.self.invariant c.self.view_is placed c.in_ok-index.ensures.some c.index.ensures).queue)
+    (sym (waits c.self.invariant c.self.view_is placed c.in_ok-index.ensures.some c.index.ensures).queue)

@@ -5,12 +5,10 @@ use Rattle.gw_chains.proofs.delays.DelayChains.copy.Goals as goal
 
 pub invariant_of-result : goal.invariant_of-result
 invariant_of-result c =
-    let d = c.self.inside in
-    rw c.in_ok-keys.ensures (same_items d.keys.keys d.chains.items _ d.count c.self.invariant
-    (c.in_ok-copy_chains.ensures ∙ ap queues_of c.deref.ensures.value)).kept
+    let queues = c.in_ok-copy_chains.ensures ∙ ap queues_of c.deref.ensures.value in
+    rw c.in_ok-keys.ensures (same_items c.self.invariant queues).kept
 
 pub returns : goal.returns
 returns c =
-    let d = c.self.inside in
-    rw (c.in_ok-keys.ensures, ← c.self.view_is) (same_items d.keys.keys d.chains.items _ d.count c.self.invariant
-    (c.in_ok-copy_chains.ensures ∙ ap queues_of c.deref.ensures.value)).delays
+    let queues = c.in_ok-copy_chains.ensures ∙ ap queues_of c.deref.ensures.value in
+    rw (c.in_ok-keys.ensures, ← c.self.view_is) (same_items c.self.invariant queues).delays

@@ -14,15 +14,11 @@ returns-in_default-clause-let_in c = λ s.
     rw c.in_default.ensures.none (sym (nobody_let_in c.args.key.now c.args.shares.now [] _))
 
 pub index_mut-chain-requires : goal.index_mut-chain-requires
-index_mut-chain-requires c =
-    let placed = c.in-Some.ensures.there in
-    within _ _ _ _ _ _ _ c.self.invariant c.self.view_is placed c.in-Some.ensures.some (search rules)
+index_mut-chain-requires c = search (rules, within)
 
 there : (c : After-index_mut-chain) → There c.self.inside.keys.keys c.self.inside.chains.items c.in-Some.index
     c.args.key.now c.index_mut-chain.result.now c.self.inside.count
-there c =
-    let placed = c.in-Some.ensures.there in
-    waits _ _ _ _ _ _ _ c.self.invariant c.self.view_is placed c.in-Some.ensures.some c.index_mut-chain.ensures.value
+there c = waits c.self.invariant c.self.view_is (search rules) (search rules) c.index_mut-chain.ensures.value
 
 pub let_in_some-requires-clause-room : goal.let_in_some-requires-clause-room
 let_in_some-requires-clause-room c =
@@ -52,7 +48,7 @@ sifted c =
     let most = at.most in
     let left = ap length c.let_in_some.ensures.items in
     let fewer = without_fewer c.args.shares.now c.index_mut-chain.result.now.items in
-    written _ _ _ _ _ _ _ _ at (omega (arith, most, left, fewer))
+    written at (omega (arith, most, left, fewer))
 
 pub invariant_of-self : goal.invariant_of-self
 invariant_of-self c = (sifted c).kept

@@ -14,20 +14,20 @@ chain : (c : After-index_mut-chain) → There c.self.inside.keys.keys c.fill.new
     c.args.key.now c.index_mut-chain.result.now c.self.inside.count
 chain c =
     let all = c.len.ensures.len in
-    let full = filled _ _ _ _ _ c.self.invariant all c.fill.ensures.long c.fill.ensures.delays in
+    let full = filled c.self.invariant all c.fill.ensures.long c.fill.ensures.delays in
     let inside : c.in-Some.index < length c.fill.new.chains.items =
     omega (arith, all, c.in-Some.ensures.within, c.in_ok-fill.ensures.ok) in
-    there _ _ _ _ _ _ full.kept c.in-Some.ensures.there inside c.index_mut-chain.ensures.value
+    there full.kept c.in-Some.ensures.there inside c.index_mut-chain.ensures.value
 
 pub invariant_of-self-in_err-reserve : goal.invariant_of-self-in_err-reserve
 invariant_of-self-in_err-reserve c =
     let at = chain (goal.at.invariant_of-self-in_err-reserve c).After-index_mut-chain in
-    (same_written _ _ _ _ _ _ _ at c.reserve.ensures.items).kept
+    (same_written _ at c.reserve.ensures.items).kept
 
 pub returns-in_err-reserve-clause-err : goal.returns-in_err-reserve-clause-err
 returns-in_err-reserve-clause-err c =
     let at = chain (goal.at.returns-in_err-reserve-clause-err c).After-index_mut-chain in
-    let same = (same_written _ _ _ _ _ _ _ at c.reserve.ensures.items).delays in
+    let same = (same_written _ at c.reserve.ensures.items).delays in
     rw (← c.self.view_is)
     (on_err c.from_residual-in_err-reserve.result _ (same ∙ c.fill.ensures.delays c.self.inside.keys.keys))
 
@@ -37,7 +37,7 @@ lined c =
     let at = chain (goal.at.returns-clause-ok c).After-index_mut-chain in
     let long = ap length c.line_up.ensures.items ∙ lined_up_length c.args.x c.reserve.new.self.items in
     let same = ap length c.reserve.ensures.items in
-    written _ _ _ _ _ _ _ _ at (omega (arith, long, same))
+    written at (omega (arith, long, same))
 
 pub invariant_of-self-2 : goal.invariant_of-self-2
 invariant_of-self-2 c = (lined c).kept

@@ -34,7 +34,7 @@ chain : (c : After-is_empty) → There c.self.inside.keys.keys c.self.inside.cha
     c.args.key.now c.in_ok-get.field-0.now c.self.inside.count
 chain c =
     let read = rw c.deref.ensures.value at c.in_ok-get.ensures.lookup in
-    there _ _ _ _ _ _ c.self.invariant c.in_ok-index.ensures.there read.3.0 read.1
+    there c.self.invariant c.in_ok-index.ensures.there read.3.0 read.1
 
 pub returns-then-is_empty-clause-none : goal.returns-then-is_empty-clause-none
 returns-then-is_empty-clause-none c =
