@@ -1,19 +1,16 @@
 -- Whom a deed lets in: those with a share are let in, and the others go on waiting, in their order.
-use Rattle.std.proofs.Common.{◌≡◌, ℕ, zero, suc, ◌+◌, ◌-◌, ◌≤◌, ◌<◌, true, false, cond, List, [], ◌∷◌, ◌++◌, length, drop, get_or, min, slice_get, remove, Option, Some, None, IfSome, refl, sym, ap, subst, ◌∙◌, arith, append_assoc, add-one}
+use Rattle.std.proofs.Common.{◌≡◌, ℕ, zero, suc, ◌+◌, ◌≤◌, ◌<◌, true, false, List, [], ◌∷◌, ◌++◌, length, drop, get_or, min, slice_get, remove, Option, Some, None, refl, sym, ap, subst, ◌∙◌, arith, append_assoc, add-one}
 use Rattle.std.proofs.lemmas.Grind.{common_steps}
 use Rattle.std.proofs.lemmas.List.{drop_more, length-append, length-drop}
 use Rattle.gw_names.specs.declared.key.Key.{Key}
 use Rattle.gw_entities.specs.Tables.{value_of, with_value}
 use Rattle.gw_entities.proofs.Lookups.{Some_same}
-use Rattle.gw_entities.proofs.TableLaws.{key_eq_equiv}
-use Rattle.gw_entities.proofs.Finding.{value_of-with_value}
 use Rattle.gw_meaning.specs.declared.transaction.Transaction.{Transaction}
-use Rattle.gw_meaning.specs.Machine.{Machine, delay_at, waiting, AreInOrder}
+use Rattle.gw_meaning.specs.Machine.{Machine, AreInOrder}
 use Rattle.gw_meaning.specs.Changes.{let_in, some_let_in}
 use Rattle.gw_meaning.proofs.Chains.{AreNotAbove, IsOrdered, ordered, in_order}
-use Rattle.gw_chains.specs.Chains.{Chain, delays_of, IsWaitingPlace, has_share, with_share, without_share, IsWithin, AreWithin, HasRoomToLetAllIn, all_let_in}
-use Rattle.gw_entities.proofs.Keyed.{with_same, with_again}
-use Rattle.gw_chains.proofs.DelayLaws.{waiting_with}
+use Rattle.gw_chains.specs.Chains.{has_share, with_share, without_share, IsWithin, AreWithin, HasRoomToLetAllIn, all_let_in}
+use Rattle.gw_entities.proofs.Keyed.{value_set, with_same, with_again}
 
 abbrev Shares : Type 0
 Shares = List (Option ℕ)
@@ -94,11 +91,6 @@ without_fewer (share ∷ shares) [] = omega arith
 without_fewer (None ∷ shares) (x ∷ xs) = let rest = without_fewer shares xs in omega (arith, rest)
 without_fewer (Some units ∷ shares) (x ∷ xs) = let rest = without_fewer shares xs in omega (arith, rest)
 
--- a chain that was set, and one that is set again
-value_with : (ds : Delays) (key : Key) (xs : List Transaction) → value_of (with_value ds key xs) key ≡ Some xs
-value_with ds key xs =
-    value_of-with_value ds key xs key ∙ ap (λ b. cond b (Some xs) (value_of ds key)) (key_eq_equiv.refl key)
-
 -- who is let in leaves the delay chains as they are
 let_in_beside : (x : Transaction) (to : Option ℕ) (s : Machine) (ds : Delays) →
     let_in x to (record s { delays = ds }) ≡ record (let_in x to s) { delays = ds }
@@ -139,26 +131,9 @@ some_let_in_is key (Some units ∷ shares) passed (x ∷ xs) s h =
     let kept : List Transaction = passed ++ without_share shares xs in
     let in_now : let_in x x.destination (record s { delays = ds }) ≡ record t { delays = ds } = let_in_beside x x.destination s ds in
     ap (some_let_in key shares passed xs) in_now ∙
-    (some_let_in_is key shares passed xs (record t { delays = ds }) (value_with s.delays key (passed ++ xs)) ∙
+    (some_let_in_is key shares passed xs (record t { delays = ds }) (value_set s.delays key (passed ++ xs)) ∙
     (ap (λ (u : Machine). record u { delays = with_value ds key kept }) (all_beside (with_share shares xs) t ds) ∙
     ap (λ (es : Delays). record (all_let_in (with_share shares xs) t) { delays = es }) (with_again s.delays key (passed ++ xs) kept)))
-
--- where there is room for so many to go, there is for those with a share
-pub room_for : (cs : List (Key × Chain Transaction)) (key : Key) (place : Option ℕ) (shares : Shares) (count room : ℕ) → IsWaitingPlace cs key place →
-    length (with_share shares (delay_at (delays_of cs) key)) ≤ count → IfSome place (λ _. count ≤ room) →
-    length (with_share shares (delay_at (delays_of cs) key)) ≤ room
-room_for cs key None shares count room none all more = rw (none, with_nobody shares) (omega arith)
-room_for cs key (Some i) shares count room there all more = omega (arith, all, more)
-
--- how many wait, when those with a share are gone
-pub fewer_wait : (ds : Delays) (key : Key) (shares : Shares) (chain : List Transaction) (n : ℕ) → delay_at ds key ≡ chain → n ≡ length (waiting ds) →
-    (length chain - length (without_share shares chain) ≤ n) ×
-    (n - (length chain - length (without_share shares chain)) ≡ length (waiting (with_value ds key (without_share shares chain))))
-fewer_wait ds key shares chain n is all =
-    let long : length (delay_at ds key) ≡ length chain = ap length is in
-    let both = waiting_with ds key (without_share shares chain) in
-    let fewer = without_fewer shares chain in
-    (omega (arith, both, long, fewer, all), omega (arith, both, long, fewer, all))
 
 -- After i of a chain F: those that were kept stand in front of the rest of it.
 pub record Sifting (shares : Shares) (F : List Transaction) (i kept : ℕ) (items : List Transaction) : Type 0 where

@@ -8,5 +8,4 @@ pub mod Leasts
 pub mod FutureLaws
 pub mod Beside
 mod LinkedLaws
-pub mod Padding
 pub mod AnewLaws

@@ -1,10 +1,10 @@
 -- The chains of transactions, and who is let in from one to another. (Our own.)
-use Rattle.std.specs.Prelude.{◌≡◌, ℕ, ◌<◌, Bool, false, List, [], ◌∷◌, ◌≤◌, Option, Some, None, is_some}
+use Rattle.std.specs.Prelude.{ℕ, ◌<◌, Bool, false, List, [], ◌∷◌, ◌≤◌, Option, Some, None, is_some}
 use Rattle.std.specs.Prelude.{option_map, unwrap_or, slice_get, length}
 use Rattle.gw_names.specs.declared.key.Key.{Key}
-use Rattle.gw_entities.specs.Tables.{with_value, IsPlace}
+use Rattle.gw_entities.specs.Tables.{with_value}
 use Rattle.gw_meaning.specs.declared.transaction.Transaction.{Transaction}
-use Rattle.gw_meaning.specs.Machine.{Machine, delay_at}
+use Rattle.gw_meaning.specs.Machine.{Machine}
 use Rattle.gw_meaning.specs.Changes.{let_in}
 
 -- a chain
@@ -18,11 +18,6 @@ pub record Chain (A : Type 0) : Type 0 where
 abbrev pub delays_of : List (Key × Chain Transaction) → List (Key × List Transaction)
 delays_of [] = []
 delays_of (c ∷ cs) = (c.0, c.1.items) ∷ delays_of cs
-
--- where those lie who wait for a facility or a storage, if any do
-abbrev pub IsWaitingPlace : List (Key × Chain Transaction) → Key → Option ℕ → Type 0
-IsWaitingPlace chains key None = delay_at (delays_of chains) key ≡ []
-IsWaitingPlace chains key (Some index) = IsPlace chains key (Some index)
 
 -- who waits on a chain, where there is one
 abbrev pub items_of : Option (Chain Transaction) → List Transaction

@@ -1,10 +1,15 @@
-ghost use Rattle.std.specs.Prelude.{◌≡◌, ◌<◌, ◌≤◌, ◌+◌, ◌-◌, ◌^◌, ℕ, [], length, max, take, option_copied, Some, None, IfSome, IfOk, OnOk, OnErr};
-ghost use Rattle.gw_entities.specs.Tables.{value_of, with_value, IsPlace};
+ghost use Rattle.std.specs.Prelude.{◌≡◌, ◌<◌, ◌≤◌, ◌+◌, ◌-◌, ◌^◌, false, List, [], length, max, take};
+ghost use Rattle.std.specs.Prelude.{Some, slice_get, option_copied, IfSome, IfNone, IfOk, OnOk, OnErr};
+ghost use Rattle.std.specs.List.{list_any};
+ghost use Rattle.std.specs.Map.{keys_of};
+ghost use Rattle.gw_names.specs.declared.key.Key.{Key};
+ghost use Rattle.gw_names.specs.Keys.{key_eq};
+ghost use Rattle.gw_entities.specs.Tables.{value_of, with_value};
 ghost use Rattle.gw_meaning.specs.Changes.{lined_up, some_let_in};
 ghost use Rattle.gw_meaning.specs.Machine.{Machine, delay_at, waiting};
 ghost use Rattle.gw_chains.specs.Chains.{delays_of, items_of, room_of, first_of, without_first, with_share};
-ghost use Rattle.gw_chains.specs.Chains.{IsWaitingPlace, HasRoomToLetAllIn};
-ghost use Rattle.gw_chains.specs.Delays.{queues_of, padded};
+ghost use Rattle.gw_chains.specs.Chains.{HasRoomToLetAllIn};
+ghost use Rattle.gw_chains.specs.Delays.{queues_of, chains_of};
 
 use crate::chain::PriorityChain;
 use crate::counts::Counts;
@@ -18,26 +23,25 @@ use std::marker::Model;
 #[derive(Drop)]
 pub struct DelayChains {
     keys: KeySet,
-    // The chain of each key, but for the last ones while nobody waits on them: where copies share them, these are left out.
+    // The chain of each key, but for the last ones while nobody waits on them: where copies share them, these are left
+    // out.
     chains: Vec<PriorityChain>,
     // How many wait on all chains.
     count: usize,
 }
 
 impl Model for DelayChains {
-    ghost use Rattle.std.specs.Prelude.{◌≤◌, List, length};
-    ghost use Rattle.std.specs.List.{zip};
+    ghost use Rattle.std.specs.Prelude.{List};
     ghost use Rattle.gw_names.specs.declared.key.Key.{Key};
     ghost use Rattle.gw_meaning.specs.declared.transaction.Transaction.{Transaction};
     ghost use Rattle.gw_chains.specs.Chains.{Chain};
-    ghost use Rattle.gw_chains.specs.Delays.{AreKept, padded};
+    ghost use Rattle.gw_chains.specs.Delays.{chains_of, AreKept};
 
     ghost Value = { List (Key × Chain Transaction) };
 
-    ghost view = { λ d. zip d.keys.keys (padded (length d.keys.keys) d.chains.items) };
+    ghost view = { λ d. chains_of d.keys.keys d.chains.items };
 
-    ghost invariant = { λ d. AreKept d.keys.keys (padded (length d.keys.keys) d.chains.items) d.count
-        × (length d.chains.items ≤ length d.keys.keys) };
+    ghost invariant = { λ d. AreKept d.keys.keys d.chains.items d.count };
 }
 
 impl DelayChains {
@@ -69,59 +73,40 @@ impl DelayChains {
         self.count
     }
 
-    // Where the chain of a facility or a storage lies, if it has one.
+    // Where those lie who wait for a facility or a storage, if anybody does. While nobody waits at all, as mostly, no
+    // key is looked up.
     #[inline(always)]
     fn place(&self, key: &Key) -> Option<usize>
-        ensures { IsPlace self.now key.now result }
-    {
-        self.keys.place(key)
-    }
-
-    /// Where the chain of a facility or a storage lies, for the other calls that take a place: none where nobody waits
-    /// on any chain now, and then none is looked for.
-    #[inline(always)]
-    pub fn waiting_place(&self, key: &Key) -> Option<usize>
-        ensures { IsWaitingPlace self.now key.now result }
+        ensures there { IfSome result (λ i. slice_get (keys_of self.now) i ≡ Some key.now) }
+        ensures some { IfSome result (λ _. 0 < length (delay_at (delays_of self.now) key.now)) }
+        ensures none { IfNone result (delay_at (delays_of self.now) key.now ≡ []) }
     {
         if self.count == 0 {
             return None;
         }
-        self.place(key)
+        let index = self.keys.place(key)?;
+        if self.chains.get(index)?.is_empty() {
+            return None;
+        }
+        Some(index)
     }
 
-    /// The chain of a facility or a storage, where somebody waited for it; none where nobody waits at all now.
+    /// The chain of a facility or a storage, where somebody waits for it.
     #[inline(always)]
     pub fn chain(&self, key: &Key) -> Option<&PriorityChain>
         ensures { items_of (option_copied result) ≡ delay_at (delays_of self.now) key.now }
     {
-        let place = self.waiting_place(key);
-        self.chain_at(key, place)
+        let index = self.place(key)?;
+        Some(&self.chains[index])
     }
 
-    /// The same, where it is known where those lie who wait for the facility or the storage.
-    #[inline(always)]
-    pub fn chain_at(&self, key: &Key, place: Option<usize>) -> Option<&PriorityChain>
-        requires { IsWaitingPlace self.now key.now place }
-        ensures { items_of (option_copied result) ≡ delay_at (delays_of self.now) key.now }
-    {
-        let Some(index) = place else {
-            return None;
-        };
-        if index < self.chains.len() {
-            Some(&self.chains[index])
-        } else {
-            None
-        }
-    }
-
-    /// The first of those who wait for a facility, where it is known where they lie.
+    /// The first of those who wait for a facility or a storage.
     #[inline(always)]
     #[tactic(auto, using(crate::proofs::DelayLaws::first_is))]
-    pub fn first_at(&self, key: &Key, place: Option<usize>) -> Option<&Transaction>
-        requires { IsWaitingPlace self.now key.now place }
+    pub fn first(&self, key: &Key) -> Option<&Transaction>
         ensures { option_copied result ≡ first_of (delay_at (delays_of self.now) key.now) }
     {
-        match self.chain_at(key, place) {
+        match self.chain(key) {
             Some(chain) => chain.get(0),
             None => None,
         }
@@ -138,7 +123,7 @@ impl DelayChains {
         if self.count == usize::MAX {
             return Err(AllocError);
         }
-        let Some(index) = self.place(key) else {
+        let Some(index) = self.keys.place(key) else {
             return self.line_up_first(key, x);
         };
         fill(&mut self.chains, self.keys.len())?;
@@ -152,7 +137,7 @@ impl DelayChains {
     // The same, where nobody has waited for the facility or the storage.
     #[inline(never)]
     fn line_up_first(&mut self, key: &Key, x: Transaction) -> Result<(), AllocError>
-        requires none { value_of self.old key.now ≡ None }
+        requires none { list_any (key_eq key.now) (keys_of self.old) ≡ false }
         requires count { length (waiting (delays_of self.old)) < 2 ^ 64 - 1 }
         ensures ok { OnOk result (delays_of self.new ≡
             with_value (delays_of self.old) key.now (lined_up x (delay_at (delays_of self.old) key.now))) }
@@ -171,55 +156,40 @@ impl DelayChains {
         Ok(())
     }
 
-    /// The first of those who wait for a facility goes, where it is known where they lie.
+    /// The first of those who wait for a facility goes.
     #[inline(always)]
-    pub fn take_first_at(&mut self, key: &Key, place: Option<usize>) -> Option<Transaction>
-        requires { IsWaitingPlace self.old key.now place }
+    pub fn take_first(&mut self, key: &Key) -> Option<Transaction>
         ensures first { result ≡ first_of (delay_at (delays_of self.old) key.now) }
         ensures delays { delays_of self.new ≡
             without_first (delays_of self.old) key.now (delay_at (delays_of self.old) key.now) }
     {
-        let Some(index) = place else {
-            return None;
-        };
-        if index >= self.chains.len() {
-            return None;
-        }
+        let index = self.place(key)?;
         let x = self.chains[index].take_first()?;
         self.count -= 1;
         Some(x)
     }
 
-    /// Makes room for so many to go who wait for a storage, where it is known where they lie. They stay there.
-    pub fn reserve_at(
-        &mut self,
-        key: &Key,
-        place: Option<usize>,
-        count: usize,
-    ) -> Result<(), AllocError>
-        requires { IsWaitingPlace self.old key.now place }
-        ensures ok { OnOk result (IfSome place (λ _. count ≤ room_of (value_of self.new key.now))) }
+    /// Makes room for so many to go who wait for a storage. They stay there.
+    pub fn reserve(&mut self, key: &Key, count: usize) -> Result<(), AllocError>
+        requires { count ≤ length (delay_at (delays_of self.old) key.now) }
+        ensures ok { OnOk result (count ≤ room_of (value_of self.new key.now)) }
         ensures delays { delays_of self.new ≡ delays_of self.old }
-        ensures place { IsWaitingPlace self.new key.now place }
     {
-        let Some(index) = place else {
-            return Ok(());
-        };
-        fill(&mut self.chains, self.keys.len())?;
-        self.chains[index].reserve(count)
+        match self.place(key) {
+            Some(index) => self.chains[index].reserve(count),
+            None => Ok(()),
+        }
     }
 
-    /// Of those who wait for a storage each with a share is let in, where it is known where they lie.
+    /// Of those who wait for a storage each with a share is let in.
     #[inline(always)]
-    pub fn let_in_some_at(
+    pub fn let_in_some(
         &mut self,
         key: &Key,
-        place: Option<usize>,
         shares: &[Option<u64>],
         current: &mut PriorityChain,
         counts: &mut Counts,
     )
-        requires place { IsWaitingPlace self.old key.now place }
         requires room { HasRoomToLetAllIn (with_share shares.now (delay_at (delays_of self.old) key.now))
             current.old.room counts.old.limit }
         requires going { length (with_share shares.now (delay_at (delays_of self.old) key.now)) ≤
@@ -234,12 +204,9 @@ impl DelayChains {
         ensures room { current.old.room ≤ current.new.room +
             length (with_share shares.now (delay_at (delays_of self.old) key.now)) }
     {
-        let Some(index) = place else {
+        let Some(index) = self.place(key) else {
             return;
         };
-        if index >= self.chains.len() {
-            return;
-        }
         let chain = &mut self.chains[index];
         let before = chain.len();
         chain.let_in_some(shares, current, counts);
@@ -274,7 +241,8 @@ impl DelayChains {
 fn fill(chains: &mut Vec<PriorityChain>, count: usize) -> Result<(), AllocError>
     ensures ok { OnOk result (count ≤ length chains.new.items) }
     ensures long { length chains.new.items ≤ max (length chains.old.items) count }
-    ensures queues { (n : ℕ) → queues_of (padded n chains.new.items) ≡ queues_of (padded n chains.old.items) }
+    ensures delays { (keys : List Key) →
+        delays_of (chains_of keys chains.new.items) ≡ delays_of (chains_of keys chains.old.items) }
 {
     let alloc = *chains.allocator();
     while chains.len() < count {
@@ -286,7 +254,8 @@ fn fill(chains: &mut Vec<PriorityChain>, count: usize) -> Result<(), AllocError>
 // How many of these there are up to the last on which somebody waits.
 fn in_use(chains: &[PriorityChain]) -> usize
     ensures within { result ≤ length chains.now }
-    ensures queues { (n : ℕ) → queues_of (padded n (take result chains.now)) ≡ queues_of (padded n chains.now) }
+    ensures delays { (keys : List Key) →
+        delays_of (chains_of keys (take result chains.now)) ≡ delays_of (chains_of keys chains.now) }
 {
     let mut count = chains.len();
     while count > 0 {

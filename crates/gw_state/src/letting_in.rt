@@ -55,8 +55,7 @@ impl Parts {
             return Err(AllocError);
         };
         self.current.reserve(all)?;
-        let place = self.delays.waiting_place(key);
-        match self.delays.first_at(key, place) {
+        match self.delays.first(key) {
             Some(x) => reserve_block(x, &mut self.counts),
             None => Ok(()),
         }
@@ -83,8 +82,7 @@ impl Parts {
           counts = self.new.counts;
         } }
     {
-        let place = self.delays.waiting_place(key);
-        let Some(chain) = self.delays.chain_at(key, place) else {
+        let Some(chain) = self.delays.chain(key) else {
             self.current.reserve(others)?;
             return Ok(());
         };
@@ -93,7 +91,7 @@ impl Parts {
             return Err(AllocError);
         };
         self.current.reserve(all)?;
-        self.delays.reserve_at(key, place, count)
+        self.delays.reserve(key, count)
     }
 
     // Those of the delay chain of a key whom a deed lets in go to the current chain, one by one from the front: of a
@@ -111,14 +109,9 @@ impl Parts {
         match deed {
             Deed::Facility(FacilityDeed::Release { .. }) => self.admit_first(key),
             Deed::Storage(StorageDeed::Leave { shares, .. }) => {
-                let place = self.delays.waiting_place(key);
-                self.delays.let_in_some_at(
-                    key,
-                    place,
-                    shares.as_slice(),
-                    &mut self.current,
-                    &mut self.counts,
-                );
+                let shares = shares.as_slice();
+                let current = &mut self.current;
+                self.delays.let_in_some(key, shares, current, &mut self.counts);
             }
             _ => (),
         }
@@ -138,8 +131,7 @@ impl Parts {
           counts = self.new.counts;
         } }
     {
-        let place = self.delays.waiting_place(key);
-        if let Some(x) = self.delays.take_first_at(key, place) {
+        if let Some(x) = self.delays.take_first(key) {
             let_in(&mut self.current, &mut self.counts, x);
         }
     }

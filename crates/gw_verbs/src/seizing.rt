@@ -49,9 +49,7 @@ pub fn decide_release(
 fn first_waiting(state: &State, key: &Key) -> Option<u64>
     ensures { result ≡ first_number (delay_at state.now.delays key.now) }
 {
-    let delays = state.delays();
-    let place = delays.waiting_place(key);
-    match delays.first_at(key, place) {
+    match state.delays().first(key) {
         Some(x) => Some(x.number),
         None => None,
     }

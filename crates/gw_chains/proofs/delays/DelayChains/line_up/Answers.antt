@@ -1,104 +1,49 @@
-use Rattle.std.proofs.Common.{◌+◌, ◌<◌, length, set, sym, ap, ◌∙◌, rules}
-use Rattle.std.specs.List.{zip}
-use Rattle.gw_entities.specs.Tables.{with_value}
-use Rattle.gw_meaning.specs.Changes.{lined_up}
-use Rattle.gw_chains.specs.Chains.{delays_of}
-use Rattle.gw_chains.specs.Delays.{padded}
-use Rattle.gw_chains.proofs.Beside.{queue_there, same_written, same_written_kept, written_delays, written_kept}
-use Rattle.gw_entities.proofs.Keyed.{within_beside}
-use Rattle.gw_chains.proofs.DelayLaws.{on_err, one_more_waits, place_there}
-use Rattle.gw_chains.proofs.Padding.{filled, filled_place, partly, whole_kept, whole_delays}
+use Rattle.std.proofs.Common.{◌+◌, ◌<◌, length, ap, ◌∙◌, arith}
+use Rattle.gw_chains.proofs.Beside.{There, Written, filled, keys_are, same_written, there, written}
+use Rattle.gw_chains.proofs.DelayLaws.{lined_up_length, on_err}
 use Rattle.gw_chains.proofs.delays.DelayChains.line_up.Goals as goal
+use Rattle.gw_chains.proofs.delays.DelayChains.line_up.Goals.{After-index_mut-chain}
 
-pub invariant_of-self : goal.invariant_of-self
-invariant_of-self c =
-    let ks = c.self.inside.keys.keys in
-    let raw = c.self.inside.chains.items in
-    let cs = c.fill.new.chains.items in
-    let part = partly ks raw cs c.self.inside.count c.len.result c.self.invariant c.len.ensures.len c.fill.ensures.long c.fill.ensures.queues in
-    part.kept
+pub line_up_first-requires-clause-none : goal.line_up_first-requires-clause-none
+line_up_first-requires-clause-none c =
+    let d = c.self.inside in
+    rw (← c.self.view_is, keys_are d.keys.keys d.chains.items) c.in_default.ensures.none
 
-pub returns-in_err-fill-clause-err : goal.returns-in_err-fill-clause-err
-returns-in_err-fill-clause-err c =
-    let ks = c.self.inside.keys.keys in
-    let raw = c.self.inside.chains.items in
-    let cs = c.fill.new.chains.items in
-    let part = partly ks raw cs c.self.inside.count c.len.result c.self.invariant c.len.ensures.len c.fill.ensures.long c.fill.ensures.queues in
-    rw (← c.self.view_is) (on_err c.from_residual.result _ part.delays)
-
-pub index_mut-chain-requires : goal.index_mut-chain-requires
-index_mut-chain-requires c =
-    let ks = c.self.inside.keys.keys in
-    let raw = c.self.inside.chains.items in
-    let cs = c.fill.new.chains.items in
-    let count = c.self.inside.count in
-    let key = c.args.key.now in
-    let i = c.in-Some.index in
-    let full = filled ks raw cs count c.len.result c.self.invariant c.len.ensures.len c.in_ok-fill.ensures.ok c.fill.ensures.long c.fill.ensures.queues in
-    let there = filled_place ks raw cs i key count full.kept (place_there (zip ks (padded (length ks) raw)) key c.place.result i c.in-Some.is (rw (← c.self.view_is) at c.place.ensures)) in
-    let within : i < length cs = within_beside ks cs i key there in
-    search rules
+-- the chain as it is read behind those that were made
+chain : (c : After-index_mut-chain) → There c.self.inside.keys.keys c.fill.new.chains.items c.in-Some.index
+    c.args.key.now c.index_mut-chain.result.now c.self.inside.count
+chain c =
+    let all = c.len.ensures.len in
+    let full = filled c.self.invariant all c.fill.ensures.long c.fill.ensures.delays in
+    let inside : c.in-Some.index < length c.fill.new.chains.items =
+    omega (arith, all, c.in-Some.ensures.within, c.in_ok-fill.ensures.ok) in
+    there full.kept c.in-Some.ensures.there inside c.index_mut-chain.ensures.value
 
 pub invariant_of-self-in_err-reserve : goal.invariant_of-self-in_err-reserve
 invariant_of-self-in_err-reserve c =
-    let ks = c.self.inside.keys.keys in
-    let raw = c.self.inside.chains.items in
-    let cs = c.fill.new.chains.items in
-    let count = c.self.inside.count in
-    let key = c.args.key.now in
-    let i = c.in-Some.index in
-    let full = filled ks raw cs count c.len.result c.self.invariant c.len.ensures.len c.in_ok-fill.ensures.ok c.fill.ensures.long c.fill.ensures.queues in
-    let there = filled_place ks raw cs i key count full.kept (place_there (zip ks (padded (length ks) raw)) key c.place.result i c.in-Some.is (rw (← c.self.view_is) at c.place.ensures)) in
-    whole_kept ks (set cs i c.reserve.new.self) count
-    (same_written_kept ks cs i key c.index_mut-chain.result.now c.reserve.new.self count full.kept there c.index_mut-chain.ensures.value c.reserve.ensures.items)
+    let at = chain (goal.at.invariant_of-self-in_err-reserve c).After-index_mut-chain in
+    (same_written _ at c.reserve.ensures.items).kept
 
 pub returns-in_err-reserve-clause-err : goal.returns-in_err-reserve-clause-err
 returns-in_err-reserve-clause-err c =
-    let ks = c.self.inside.keys.keys in
-    let raw = c.self.inside.chains.items in
-    let cs = c.fill.new.chains.items in
-    let count = c.self.inside.count in
-    let key = c.args.key.now in
-    let i = c.in-Some.index in
-    let full = filled ks raw cs count c.len.result c.self.invariant c.len.ensures.len c.in_ok-fill.ensures.ok c.fill.ensures.long c.fill.ensures.queues in
-    let there = filled_place ks raw cs i key count full.kept (place_there (zip ks (padded (length ks) raw)) key c.place.result i c.in-Some.is (rw (← c.self.view_is) at c.place.ensures)) in
-    let kept = same_written_kept ks cs i key c.index_mut-chain.result.now c.reserve.new.self count full.kept there c.index_mut-chain.ensures.value c.reserve.ensures.items in
-    let same = same_written ks cs i key c.index_mut-chain.result.now c.reserve.new.self full.kept.apart full.kept.beside there
-    c.index_mut-chain.ensures.value c.reserve.ensures.items in
-    rw (← c.self.view_is) (on_err c.from_residual-in_err-reserve.result _ (whole_delays ks (set cs i c.reserve.new.self) count kept ∙ (same ∙ full.delays)))
+    let at = chain (goal.at.returns-in_err-reserve-clause-err c).After-index_mut-chain in
+    let same = (same_written _ at c.reserve.ensures.items).delays in
+    rw (← c.self.view_is)
+    (on_err c.from_residual-in_err-reserve.result _ (same ∙ c.fill.ensures.delays c.self.inside.keys.keys))
+
+lined : (c : goal.After-self-3-1) → Written c.self.inside.keys.keys c.fill.new.chains.items c.in-Some.index
+    c.args.key.now c.line_up.new.self (c.self.inside.count + 1)
+lined c =
+    let at = chain (goal.at.returns-clause-ok c).After-index_mut-chain in
+    let long = ap length c.line_up.ensures.items ∙ lined_up_length c.args.x c.reserve.new.self.items in
+    let same = ap length c.reserve.ensures.items in
+    written at (omega (arith, long, same))
 
 pub invariant_of-self-2 : goal.invariant_of-self-2
-invariant_of-self-2 c =
-    let ks = c.self.inside.keys.keys in
-    let raw = c.self.inside.chains.items in
-    let cs = c.fill.new.chains.items in
-    let count = c.self.inside.count in
-    let key = c.args.key.now in
-    let i = c.in-Some.index in
-    let full = filled ks raw cs count c.len.result c.self.invariant c.len.ensures.len c.in_ok-fill.ensures.ok c.fill.ensures.long c.fill.ensures.queues in
-    let there = filled_place ks raw cs i key count full.kept (place_there (zip ks (padded (length ks) raw)) key c.place.result i c.in-Some.is (rw (← c.self.view_is) at c.place.ensures)) in
-    let was = c.index_mut-chain.result.now in
-    let own = c.line_up.new.self in
-    let queue = queue_there ks cs i key was there c.index_mut-chain.ensures.value in
-    let lined = written_delays ks cs i key own full.kept.apart full.kept.beside there ∙
-    ap (with_value (delays_of (zip ks cs)) key) (c.line_up.ensures.items ∙ ap (lined_up c.args.x) (c.reserve.ensures.items ∙ sym queue)) in
-    whole_kept ks (set cs i own) (count + 1)
-    (written_kept ks cs i own count _ full.kept (one_more_waits (delays_of (zip ks cs)) _ key c.args.x count full.kept.counted lined))
+invariant_of-self-2 c = (lined c).kept
 
 pub returns-clause-ok : goal.returns-clause-ok
 returns-clause-ok c =
-    let ks = c.self.inside.keys.keys in
-    let raw = c.self.inside.chains.items in
-    let cs = c.fill.new.chains.items in
-    let count = c.self.inside.count in
-    let key = c.args.key.now in
-    let i = c.in-Some.index in
-    let full = filled ks raw cs count c.len.result c.self.invariant c.len.ensures.len c.in_ok-fill.ensures.ok c.fill.ensures.long c.fill.ensures.queues in
-    let there = filled_place ks raw cs i key count full.kept (place_there (zip ks (padded (length ks) raw)) key c.place.result i c.in-Some.is (rw (← c.self.view_is) at c.place.ensures)) in
-    let was = c.index_mut-chain.result.now in
-    let own = c.line_up.new.self in
-    let queue = queue_there ks cs i key was there c.index_mut-chain.ensures.value in
-    let lined = written_delays ks cs i key own full.kept.apart full.kept.beside there ∙
-    ap (with_value (delays_of (zip ks cs)) key) (c.line_up.ensures.items ∙ ap (lined_up c.args.x) (c.reserve.ensures.items ∙ sym queue)) in
-    let kept = written_kept ks cs i own count _ full.kept (one_more_waits (delays_of (zip ks cs)) _ key c.args.x count full.kept.counted lined) in
-    rw (← c.self.view_is, ← full.delays) (whole_delays ks (set cs i own) (count + 1) kept ∙ lined)
+    let at = chain (goal.at.returns-clause-ok c).After-index_mut-chain in
+    rw (← c.self.view_is, ← c.fill.ensures.delays c.self.inside.keys.keys, at.queue)
+    (rw (← c.reserve.ensures.items, ← c.line_up.ensures.items) (lined c).delays)

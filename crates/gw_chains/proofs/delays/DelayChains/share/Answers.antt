@@ -1,6 +1,6 @@
-use Rattle.std.proofs.Common.{◌∙◌, ap}
+use Rattle.std.proofs.Common.{ap, ◌∙◌}
 use Rattle.gw_chains.specs.Delays.{queues_of}
-use Rattle.gw_chains.proofs.Padding.{trimmed}
+use Rattle.gw_chains.proofs.Beside.{fewer}
 use Rattle.gw_chains.proofs.delays.DelayChains.share.Goals as goal
 
 pub invariant_of-self : goal.invariant_of-self
@@ -8,14 +8,12 @@ invariant_of-self c = rw c.share.ensures c.self.invariant
 
 pub invariant_of-self-2 : goal.invariant_of-self-2
 invariant_of-self-2 c =
-    let d = c.self.inside in
-    rw c.share.ensures
-    (trimmed d.keys.keys d.chains.items c.share_all.new.chains.items c.in_use-count.result d.count
-    (c.share_all.ensures ∙ ap queues_of c.truncate.ensures.items) (rw c.deref.ensures.value at c.in_use-count.ensures.queues) c.self.invariant).kept
+    let front = rw c.deref.ensures.value at c.in_use-count.ensures.delays c.self.inside.keys.keys in
+    let queues = c.share_all.ensures ∙ ap queues_of c.truncate.ensures.items in
+    rw c.share.ensures (fewer c.in_use-count.result c.self.invariant front queues).kept
 
 pub returns : goal.returns
 returns c =
-    let d = c.self.inside in
-    rw (← c.self.view_is, c.share.ensures)
-    (trimmed d.keys.keys d.chains.items c.share_all.new.chains.items c.in_use-count.result d.count
-    (c.share_all.ensures ∙ ap queues_of c.truncate.ensures.items) (rw c.deref.ensures.value at c.in_use-count.ensures.queues) c.self.invariant).delays
+    let front = rw c.deref.ensures.value at c.in_use-count.ensures.delays c.self.inside.keys.keys in
+    let queues = c.share_all.ensures ∙ ap queues_of c.truncate.ensures.items in
+    rw (← c.self.view_is, c.share.ensures) (fewer c.in_use-count.result c.self.invariant front queues).delays
