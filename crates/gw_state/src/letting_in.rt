@@ -111,7 +111,8 @@ impl Parts {
             Deed::Storage(StorageDeed::Leave { shares, .. }) => {
                 let shares = shares.as_slice();
                 let current = &mut self.current;
-                self.delays.let_in_some(key, shares, current, &mut self.counts);
+                self.delays
+                    .let_in_some(key, shares, current, &mut self.counts);
             }
             _ => (),
         }
