@@ -15,8 +15,8 @@ const PART: usize = 8;
 // How many keys there may be at the most, 2^63 - 1.
 const LIMIT: usize = 9_223_372_036_854_775_807;
 
-/// Keys in the order of coming, none of them twice, found by their hash. Copies share them: for a further key no more
-/// are copied than an eighth of them.
+/// Keys in the order of coming, none of them twice, found by their hash. Copies share them: a further key copies those
+/// that came last alone, and once these are more than an eighth, the next `share` copies all.
 #[derive(Drop)]
 pub struct KeySet {
     // Those that copies share for long: none comes to them.
