@@ -1,6 +1,6 @@
 // LOGIC: a switch is set, reset or inverted.
 ghost use Rattle.std.specs.Prelude.{◌≡◌, option_copied};
-ghost use Rattle.gw_meaning.specs.Step.{switched, logic_of, logic_prog};
+ghost use Rattle.gw_meaning.specs.Step.{switched, logic_prog};
 ghost use Rattle.gw_asking.specs.Deciding.{Decides};
 
 use crate::entering::enter_doing;
@@ -21,23 +21,9 @@ pub fn decide_logic(
         (logic_prog at.entry.state.now at.entry.asker.now id operator (option_copied entity.entry))
         result notes.old notes.new }
 {
-    match operator {
-        Auxiliary::Logic(switching) => { logic_of(at, notes, id, switching, entity) }
-        _ => Err(Halt::stop(Stop::NoNextBlock)),
-    }
-}
-
-fn logic_of(
-    at: Context,
-    notes: &mut Notes,
-    id: StatementId,
-    switching: Switching,
-    entity: Option<&Expr>,
-) -> Result<Move, Halt>
-    ensures { Decides at.entry.case.version.now at.entry.case.seed
-        (logic_of at.entry.state.now at.entry.asker.now id switching (option_copied entity.entry))
-        result notes.old notes.new }
-{
+    let Auxiliary::Logic(switching) = operator else {
+        return Err(Halt::stop(Stop::NoNextBlock));
+    };
     let key = key_of(at, notes, entity)?;
     let set = switched(switching, at.state.entities().is_set(&key));
     Ok(enter_doing(id, key, Deed::Switch { set }))
