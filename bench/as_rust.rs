@@ -13,9 +13,6 @@ use rt::prelude::*;
 use std::io::{Read, Write};
 
 fn main() {
-    if std::env::args().nth(1).as_deref() == Some("sizes") {
-        return sizes();
-    }
     let mut input = std::vec::Vec::new();
     std::io::stdin().read_to_end(&mut input).unwrap();
     let Ok(lines) = gw_lines::read_model(Global, split_model(&input)) else {
@@ -68,18 +65,6 @@ fn run(
         }
     }
     Ok((gw_scan::end_at(alloc, version, seed, state)?, tally.count()))
-}
-
-fn sizes() {
-    println!(
-        "Result<Move, Halt> {}",
-        size_of::<Result<gw_meaning::Move, gw_expr::Halt>>()
-    );
-    println!("Change {}", size_of::<gw_meaning::Change>());
-    println!("Fate {}", size_of::<gw_meaning::Fate>());
-    println!("Key {}", size_of::<gw_names::Key>());
-    println!("Transaction {}", size_of::<gw_meaning::Transaction>());
-    println!("State {}", size_of::<State>());
 }
 
 mod rt {

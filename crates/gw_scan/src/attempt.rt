@@ -49,7 +49,7 @@ fn decide_block(
         result notes.old notes.new }
 {
     let asker = &for_one(state, x);
-    let at = Context { state, asker, case };
+    let context = Context { state, asker, case };
     let a = block.operand(A);
     let b = block.operand(B);
     let c = block.operand(C);
@@ -57,29 +57,29 @@ fn decide_block(
     match block.verb {
         BlockVerb::Generate => {
             let limit = block.operand(D);
-            decide_generate(at, notes, x, id, a, b, limit, block.operand(E))
+            decide_generate(context, notes, x, id, a, b, limit, block.operand(E))
         }
-        BlockVerb::Advance => decide_advance(at, notes, id, a, b),
-        BlockVerb::Terminate => decide_terminate(at, notes, id, a),
-        BlockVerb::Queue => decide_queue(at, notes, id, a, b),
-        BlockVerb::Depart => decide_depart(at, notes, x, id, a, b),
-        BlockVerb::Seize => decide_seize(at, notes, id, a),
-        BlockVerb::Release => decide_release(at, notes, x, id, a),
-        BlockVerb::Enter => decide_enter(at, notes, id, a, b),
-        BlockVerb::Leave => decide_leave(at, notes, id, a, b),
+        BlockVerb::Advance => decide_advance(context, notes, id, a, b),
+        BlockVerb::Terminate => decide_terminate(context, notes, id, a),
+        BlockVerb::Queue => decide_queue(context, notes, id, a, b),
+        BlockVerb::Depart => decide_depart(context, notes, x, id, a, b),
+        BlockVerb::Seize => decide_seize(context, notes, id, a),
+        BlockVerb::Release => decide_release(context, notes, x, id, a),
+        BlockVerb::Enter => decide_enter(context, notes, id, a, b),
+        BlockVerb::Leave => decide_leave(context, notes, id, a, b),
         BlockVerb::Transfer => decide_transfer(case, notes, id, a, b, c),
-        BlockVerb::Test => decide_test(at, notes, id, beside, a, b, c),
-        BlockVerb::Gate => decide_gate(at, notes, id, beside, a, b),
-        BlockVerb::Logic => decide_logic(at, notes, id, beside, a),
-        BlockVerb::Savevalue => decide_savevalue(at, notes, id, beside, a, b),
-        BlockVerb::Tabulate => decide_tabulate(at, notes, id, a),
-        BlockVerb::Split => decide_split(at, notes, id, a, b),
-        BlockVerb::Link => decide_link(at, notes, id, a, b),
-        BlockVerb::Unlink => decide_unlink(at, notes, id, a, b, c),
+        BlockVerb::Test => decide_test(context, notes, id, beside, a, b, c),
+        BlockVerb::Gate => decide_gate(context, notes, id, beside, a, b),
+        BlockVerb::Logic => decide_logic(context, notes, id, beside, a),
+        BlockVerb::Savevalue => decide_savevalue(context, notes, id, beside, a, b),
+        BlockVerb::Tabulate => decide_tabulate(context, notes, id, a),
+        BlockVerb::Split => decide_split(context, notes, id, a, b),
+        BlockVerb::Link => decide_link(context, notes, id, a, b),
+        BlockVerb::Unlink => decide_unlink(context, notes, id, a, b, c),
         BlockVerb::Mark => decide_mark(id),
-        BlockVerb::Priority => decide_priority(at, notes, id, a),
+        BlockVerb::Priority => decide_priority(context, notes, id, a),
         BlockVerb::Buffer => decide_buffer(id),
-        BlockVerb::Assign => decide_assign(at, notes, id, beside, a, b),
-        BlockVerb::Loop => decide_loop(at, notes, id, a, b),
+        BlockVerb::Assign => decide_assign(context, notes, id, beside, a, b),
+        BlockVerb::Loop => decide_loop(context, notes, id, a, b),
     }
 }

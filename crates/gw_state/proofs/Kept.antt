@@ -155,8 +155,8 @@ brought_is (changes.Entity change) v =
     ap (λ (a : Aside). record (changed (changes.Entity change) v) { parameters = a.1 })
     (sym (some_let_in_keeps change.0 (deed_shares change.1) [] (delay_at v.delays change.0) v))
 
--- where a transaction moves on, with its user chain and the parameters kept before
-pub settled_is : (change : Change) (fate : Fate) (y : Transaction) (s : Machine) →
+-- where a transaction follows its fate, with its user chain and the parameters updated before
+pub followed_is : (change : Change) (fate : Fate) (y : Transaction) (s : Machine) →
     record (fated fate y (record s {
       linked = linked_by fate y s.linked;
       parameters = given change (active_behind fate y) s.next (kept_by fate y.number s.parameters);
@@ -166,11 +166,11 @@ pub settled_is : (change : Change) (fate : Fate) (y : Transaction) (s : Machine)
     } ≡ record (fated fate y s) {
       parameters = given change (fated fate y s).active (fated fate y s).next (fated fate y s).parameters;
     }
-settled_is change fates.Active y s = refl
-settled_is change fates.Current y s = refl
-settled_is change (fates.Delayed until) y s = refl
-settled_is change (fates.Linked key discipline) y s = refl
-settled_is change (fates.Destroyed count) y s = refl
+followed_is change fates.Active y s = refl
+followed_is change fates.Current y s = refl
+followed_is change (fates.Delayed until) y s = refl
+followed_is change (fates.Linked key discipline) y s = refl
+followed_is change (fates.Destroyed count) y s = refl
 
 -- the parameters that copies get go by the number of the transaction alone
 pub given_same :

@@ -1,4 +1,5 @@
-// A transaction enters a block: room is made for all that comes of it, then it moves, and then those whom its change brings.
+// A transaction enters a block: room is made for all that comes of it, then it moves, and then those come whom its
+// change brings.
 ghost use Rattle.std.specs.Prelude.{◌≡◌, ◌<◌, ◌-◌, ◌≤◌, ◌+◌, Some, OnOk, OnErr};
 ghost use Rattle.gw_meaning.specs.declared.moves.Move.TheVariants as moves;
 ghost use Rattle.gw_meaning.specs.Changes.{moved, placed, own_marked, marked, own_held, held_by, fated, changed, written, woken};
@@ -39,17 +40,17 @@ impl Parts {
         let others = self.retry.reserve(written.as_slice())?;
         self.reserve(id, change, others)?;
         // The last that may be refused.
-        self.keep(alloc, &x, id, change, fate)?;
+        self.update(alloc, &x, id, change, fate)?;
         self.counts.cross(x.current, id, fate);
         let clock = self.clocks.clock();
-        self.move_on(marked(change, clock, placed(x, id)), fate);
+        self.follow(marked(change, clock, placed(x, id)), fate);
         self.bring(change);
         self.retry.wake(written.as_slice(), &mut self.current);
         Ok(())
     }
 
-    // Makes room to count a transaction in a block, for where it goes, for those whom its change brings, and for so many
-    // others on the current chain. Nobody moves.
+    // Makes room to count a transaction in a block, for where it goes, for those whom its change brings, and for so
+    // many others on the current chain. Nobody moves.
     fn reserve(&mut self, id: StatementId, change: &Change, others: usize) -> Result<(), AllocError>
         ensures ok { OnOk result (HasRoom change.now self.new.delays (self.new.current.room - (others + 1))
             (self.new.future.room - 1) self.new.counts.limit) }
@@ -64,33 +65,32 @@ impl Parts {
           counts = self.new.counts;
         } }
     {
-        let Some(others) = others.checked_add(1) else {
+        let Some(all) = others.checked_add(1) else {
             return Err(AllocError);
         };
         self.counts.reserve(id)?;
+        // For the one that enters, and for whom a GENERATE makes.
         self.future.reserve(2)?;
         match change {
-            Change::Entity(EntityChange { key, deed }) => {
-                self.reserve_to_admit(key, deed, others)
-            }
+            Change::Entity(EntityChange { key, deed }) => { self.reserve_to_admit(key, deed, all) }
             Change::Generate {
                 next: Some(arrival),
             } => {
-                self.current.reserve(others)?;
+                self.current.reserve(all)?;
                 self.counts.reserve(arrival.id)
             }
             Change::Split { count, .. } | Change::Unlink { count, .. } => {
-                reserve_for(&mut self.current, *count, others)
+                reserve_for(&mut self.current, *count, all)
             }
             Change::Nothing | Change::Generate { next: None } | Change::Transaction(_) => {
-                self.current.reserve(others)
+                self.current.reserve(all)
             }
         }
     }
 
-    // Changes what is kept of entities, of parameters and of user chains where a transaction enters a block; or nothing
-    // where memory is refused.
-    fn keep(
+    // Changes the entities, the parameters and the user chains where a transaction enters a block; or nothing where
+    // memory is refused.
+    fn update(
         &mut self,
         alloc: Global,
         x: &Transaction,
@@ -113,7 +113,7 @@ impl Parts {
         } }
     {
         match fate {
-            Fate::Active => self.keep_active(alloc, x, change),
+            Fate::Active => self.update_active(alloc, x, change),
             Fate::Current | Fate::Delayed { .. } => Ok(()),
             Fate::Linked { key, discipline } => {
                 self.linked.link(key, placed(*x, id), *discipline)
@@ -123,7 +123,7 @@ impl Parts {
     }
 
     // The same, where the transaction stays active.
-    fn keep_active(
+    fn update_active(
         &mut self,
         alloc: Global,
         x: &Transaction,
@@ -151,8 +151,9 @@ impl Parts {
         }
     }
 
-    // The transaction that entered a block moves on as its fate says; its parameters and its user chain are kept before.
-    fn move_on(&mut self, x: Transaction, fate: &Fate)
+    // The transaction that entered a block goes where its fate says. Its parameters and its user chain were updated
+    // before.
+    fn follow(&mut self, x: Transaction, fate: &Fate)
         requires current { 0 < self.old.current.room }
         requires future { 0 < self.old.future.room }
         ensures fated { machine_of self.new ≡ record (fated fate.now x (machine_of self.old)) {
@@ -182,8 +183,8 @@ impl Parts {
         }
     }
 
-    // Whom a change brings: a GENERATE the next transaction, a SPLIT copies of the active one, whose parameters are given
-    // already, an UNLINK those who leave its user chain, a RELEASE and a LEAVE those whom they let in.
+    // Whom a change brings: a GENERATE the next transaction, a SPLIT copies of the active one, whose parameters were
+    // given before, an UNLINK those who leave its user chain, a RELEASE and a LEAVE those whom they let in.
     fn bring(&mut self, change: &Change)
         requires room { HasRoom change.now self.old.delays self.old.current.room self.old.future.room
             self.old.counts.limit }

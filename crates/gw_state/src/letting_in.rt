@@ -1,7 +1,7 @@
 // Who is let in behind a RELEASE or a LEAVE: room for them first, then the change, which cannot fail.
 ghost use Rattle.std.specs.Prelude.{◌≡◌, ◌+◌, ◌-◌, ◌<◌, ◌≤◌, [], ◌∷◌, Some, length, IfOk, OnOk};
 ghost use Rattle.gw_entities.specs.Tables.{value_of};
-ghost use Rattle.gw_meaning.specs.Machine.{Machine, delay_at};
+ghost use Rattle.gw_meaning.specs.Machine.{delay_at};
 ghost use Rattle.gw_meaning.specs.Changes.{some_let_in, admitted};
 ghost use Rattle.gw_chains.specs.Chains.{delays_of, room_of, first_of, with_share, IsWithin, AreWithin, HasRoomToLetIn, HasRoomToLetAllIn};
 ghost use Rattle.gw_state.specs.Admitting.{HasRoomToAdmit, going};

@@ -1,7 +1,7 @@
 //! The state of a run: its parts, how it is read and copied, and the one place where it changes.
 //!
-//! A [`State`] changes by a move alone ([`State::make`]), which was decided before. All that grows is reserved first, so a
-//! refused growth changes nothing.
+//! A [`State`] changes by a move alone ([`State::make`]), which was decided before. All that grows is reserved first,
+//! so a refused growth changes nothing.
 #![tactic(auto)]
 
 mod clocks;

@@ -51,9 +51,9 @@ impl Parts {
         }
     }
 
-    // So many copies of a transaction are made, with numbers from the next one on. They stand in its block and go to the
-    // current chain, one by one, each on its way to this block or on from its own where none is set. Their parameters
-    // stand apart.
+    // So many copies of a transaction are made, with numbers from the next one on. They stand in its block and go to
+    // the current chain, one by one, each on its way to this block or on from its own where none is set. Their
+    // parameters stand apart.
     pub fn copy_all(&mut self, x: Transaction, count: u64, to: Destination)
         requires current { count ≤ self.old.current.room }
         requires counts { x.current < self.old.counts.limit }

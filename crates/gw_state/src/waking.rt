@@ -25,7 +25,8 @@ impl Parts {
         fate: &Fate,
     ) -> Result<Vec<Watched>, AllocError>
         ensures { IfOk result (λ list. (s : Machine) → s.retry ≡ self.now.retry.waiters → woken list.items s ≡
-            woken (crossing x.now (Some id) ++ (written_by change.now (machine_of self.now) ++ written_in fate.now)) s) }
+            woken (crossing x.now (Some id) ++
+            (written_by change.now (machine_of self.now) ++ written_in fate.now)) s) }
     {
         if self.retry.is_empty() {
             return Ok(Vec::new(alloc));

@@ -33,10 +33,10 @@ Replied t seed s q (FunctionOf name) old result new = Marks (items.Named asking.
 
 -- where it is evaluated, and where it is noted, are the same
 abbrev pub IsStill : Seen → Seen → Type 0
-IsStill old new = (new.at ≡ old.at) × (new.notes.ghost_name ≡ old.notes.ghost_name)
+IsStill old new = (new.context ≡ old.context) × (new.notes.ghost_name ≡ old.notes.ghost_name)
 
 -- what a question is replied to, of what is seen
 abbrev pub Replies : (question : Question) → Seen → Result (Reply question) Halt → Seen → Type 0
 Replies question old result new =
-    Replied old.at.case.version.now old.at.case.seed old.at.state.now old.at.asker.now question old.notes.now result
+    Replied old.context.case.version.now old.context.case.seed old.context.state.now old.context.asker.now question old.notes.now result
     new.notes.now × IsStill old new

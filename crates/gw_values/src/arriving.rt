@@ -29,7 +29,7 @@ fn is_full(state: &State) -> bool
 /// where the limit is reached. X11 where the limit is below 0, X1 where the time is, X9 where 100,000 transactions
 /// live.
 pub fn arrival(
-    at: Context,
+    context: Context,
     notes: &mut Notes,
     id: StatementId,
     mean: Option<&Expr>,
@@ -37,39 +37,38 @@ pub fn arrival(
     limit: Option<&Expr>,
     priority: Option<&Expr>,
 ) -> Result<Option<Arrival>, Halt>
-    ensures { Decides at.entry.case.version.now at.entry.case.seed
-        (arrival_prog at.entry.state.now at.entry.asker.now id (count_at at.entry.state.now.counts id).made
-        (option_copied mean.entry)
-        (option_copied range.entry) (option_copied limit.entry) (option_copied priority.entry))
-        result notes.old notes.new }
+    ensures { Decides context.entry.case.version.now context.entry.case.seed
+        (arrival_prog context.entry.state.now context.entry.asker.now id
+        (count_at context.entry.state.now.counts id).made (option_copied mean.entry) (option_copied range.entry)
+        (option_copied limit.entry) (option_copied priority.entry)) result notes.old notes.new }
 {
     if let Some(limit) = limit {
-        let limit = value(at, notes, limit)?;
+        let limit = value(context, notes, limit)?;
         if limit.is_negative() {
             return Err(Halt::stop(Stop::BadCount));
         }
-        if limit.magnitude() <= at.state.count(id).made {
+        if limit.magnitude() <= context.state.count(id).made {
             return Ok(None);
         }
     }
-    arrival_in_time(at, notes, id, mean, range, priority)
+    arrival_in_time(context, notes, id, mean, range, priority)
 }
 
 fn arrival_in_time(
-    at: Context,
+    context: Context,
     notes: &mut Notes,
     id: StatementId,
     mean: Option<&Expr>,
     range: Option<&Expr>,
     priority: Option<&Expr>,
 ) -> Result<Option<Arrival>, Halt>
-    ensures { Decides at.entry.case.version.now at.entry.case.seed
-        (arrival_in_time at.entry.state.now at.entry.asker.now id (option_copied mean.entry) (option_copied range.entry)
-        (option_copied priority.entry)) result notes.old notes.new }
+    ensures { Decides context.entry.case.version.now context.entry.case.seed
+        (arrival_in_time context.entry.state.now context.entry.asker.now id (option_copied mean.entry)
+        (option_copied range.entry) (option_copied priority.entry)) result notes.old notes.new }
 {
-    let time = time(at, notes, mean, range)?;
-    let priority = value_or_zero(at, notes, priority)?;
-    arrival_at(at.state, id, time, priority)
+    let time = time(context, notes, mean, range)?;
+    let priority = value_or_zero(context, notes, priority)?;
+    arrival_at(context.state, id, time, priority)
 }
 
 fn arrival_at(
@@ -95,60 +94,62 @@ fn arrival_at(
 
 /// The first transactions of the GENERATEs at these ids, in order, each behind its offset or its time in ticks. It
 /// stops as [`arrival`] does; a block that is no GENERATE has none.
-pub fn arrivals(at: Context, notes: &mut Notes, ids: &[StatementId]) -> Result<Row<Arrival>, Halt>
-    ensures { Decides at.entry.case.version.now at.entry.case.seed
-        (arrivals_prog at.entry.state.now at.entry.asker.now ids.now [])
-        result notes.old notes.new }
+pub fn arrivals(
+    context: Context,
+    notes: &mut Notes,
+    ids: &[StatementId],
+) -> Result<Row<Arrival>, Halt>
+    ensures { Decides context.entry.case.version.now context.entry.case.seed
+        (arrivals_prog context.entry.state.now context.entry.asker.now ids.now []) result notes.old notes.new }
 {
-    let mut arrivals = Vec::new(at.case.alloc);
+    let mut arrivals = Vec::new(context.case.alloc);
     for id in ids {
-        let arrival = prime(at, notes, *id)?;
+        let arrival = prime(context, notes, *id)?;
         put_if(&mut arrivals, arrival)?;
     }
     Ok(Row::from_vec(arrivals))
 }
 
-fn prime(at: Context, notes: &mut Notes, id: StatementId) -> Result<Option<Arrival>, Halt>
-    ensures { Decides at.entry.case.version.now at.entry.case.seed
-        (prime_prog at.entry.state.now at.entry.asker.now id) result notes.old notes.new }
+fn prime(context: Context, notes: &mut Notes, id: StatementId) -> Result<Option<Arrival>, Halt>
+    ensures { Decides context.entry.case.version.now context.entry.case.seed
+        (prime_prog context.entry.state.now context.entry.asker.now id) result notes.old notes.new }
 {
-    let block = ask_block(at.case.version, notes, id)?;
-    first_arrival(at, notes, id, block)
+    let block = ask_block(context.case.version, notes, id)?;
+    first_arrival(context, notes, id, block)
 }
 
 fn first_arrival(
-    at: Context,
+    context: Context,
     notes: &mut Notes,
     id: StatementId,
     block: Option<&Block>,
 ) -> Result<Option<Arrival>, Halt>
-    ensures { Decides at.entry.case.version.now at.entry.case.seed
-        (first_arrival at.entry.state.now at.entry.asker.now id (option_copied block.entry))
+    ensures { Decides context.entry.case.version.now context.entry.case.seed
+        (first_arrival context.entry.state.now context.entry.asker.now id (option_copied block.entry))
         result notes.old notes.new }
 {
     match block {
-        Some(block) if block.is_generate() => first_of(at, notes, id, block),
+        Some(block) if block.is_generate() => first_of(context, notes, id, block),
         _ => Ok(None),
     }
 }
 
 // The first transaction of a GENERATE comes after the offset, where there is one.
 fn first_of(
-    at: Context,
+    context: Context,
     notes: &mut Notes,
     id: StatementId,
     block: &Block,
 ) -> Result<Option<Arrival>, Halt>
-    ensures { Decides at.entry.case.version.now at.entry.case.seed
-        (first_of at.entry.state.now at.entry.asker.now id block.now true)
-        result notes.old notes.new }
+    ensures { Decides context.entry.case.version.now context.entry.case.seed
+        (first_of context.entry.state.now context.entry.asker.now id block.now true) result notes.old notes.new }
 {
     let (mean, range) = match block.operand(C) {
         Some(offset) => (Some(offset), None),
         None => (block.operand(A), block.operand(B)),
     };
     arrival(
-        at,
+        context,
         notes,
         id,
         mean,

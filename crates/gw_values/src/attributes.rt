@@ -14,25 +14,30 @@ use gw_state::State;
 
 // The value of an attribute other than that of a VARIABLE or of a FUNCTION.
 #[tactic(auto, unfolding(gw_meaning::specs::Evaluation::attribute_prog))]
-pub fn attribute(at: Context, notes: &mut Notes, class: Class, of: &Subject) -> Result<Val, Halt>
-    ensures { Decides at.entry.case.version.now at.entry.case.seed
-        (attribute_prog at.entry.state.now at.entry.asker.now class of.now) result notes.old notes.new }
+pub fn attribute(
+    context: Context,
+    notes: &mut Notes,
+    class: Class,
+    of: &Subject,
+) -> Result<Val, Halt>
+    ensures { Decides context.entry.case.version.now context.entry.case.seed
+        (attribute_prog context.entry.state.now context.entry.asker.now class of.now) result notes.old notes.new }
 {
     match class {
         Class::C1 | Class::Ac1 | Class::Tg1 | Class::M1 | Class::Xn1 | Class::Pr => {
-            own_value(at.state, at.asker, class)
+            own_value(context.state, context.asker, class)
         }
-        Class::P => of_parameter(at, notes, of),
-        Class::F | Class::Fc => of_entity(at, notes, class, of),
-        Class::Q | Class::Qc => of_entity(at, notes, class, of),
-        Class::Qm | Class::Qz => of_entity(at, notes, class, of),
-        Class::X | Class::Ls => of_entity(at, notes, class, of),
-        Class::Ch | Class::Cc => of_entity(at, notes, class, of),
-        Class::S | Class::Sc | Class::Sm => of_storage(at.state, class, of),
-        Class::R => left(at, notes, of),
-        Class::Tc => of_table(at.state, of),
-        Class::N | Class::W => of_block(at, notes, class, of),
-        Class::Rn => random(at.case, notes, of),
+        Class::P => of_parameter(context, notes, of),
+        Class::F | Class::Fc => of_entity(context, notes, class, of),
+        Class::Q | Class::Qc => of_entity(context, notes, class, of),
+        Class::Qm | Class::Qz => of_entity(context, notes, class, of),
+        Class::X | Class::Ls => of_entity(context, notes, class, of),
+        Class::Ch | Class::Cc => of_entity(context, notes, class, of),
+        Class::S | Class::Sc | Class::Sm => of_storage(context.state, class, of),
+        Class::R => left(context, notes, of),
+        Class::Tc => of_table(context.state, of),
+        Class::N | Class::W => of_block(context, notes, class, of),
+        Class::Rn => random(context.case, notes, of),
         _ => Err(Halt::stop(Stop::Range)),
     }
 }
@@ -57,13 +62,13 @@ fn own_value(state: &State, asker: &Asker, class: Class) -> Result<Val, Halt>
 }
 
 // Of the transaction that asks: its parameter.
-fn of_parameter(at: Context, notes: &mut Notes, of: &Subject) -> Result<Val, Halt>
-    ensures { Decides at.entry.case.version.now at.entry.case.seed
-        (subject_prog of.now ~> (λ key. parameter_value at.entry.state.now at.entry.asker.now key))
+fn of_parameter(context: Context, notes: &mut Notes, of: &Subject) -> Result<Val, Halt>
+    ensures { Decides context.entry.case.version.now context.entry.case.seed
+        (subject_prog of.now ~> (λ key. parameter_value context.entry.state.now context.entry.asker.now key))
         result notes.old notes.new }
 {
-    let key = subject(at.case, notes, of)?;
-    parameter(at.state, at.asker, &key)
+    let key = subject(context.case, notes, of)?;
+    parameter(context.state, context.asker, &key)
 }
 
 // The value of a parameter of the transaction that asks.
@@ -77,12 +82,12 @@ fn parameter(state: &State, asker: &Asker, key: &Key) -> Result<Val, Halt>
 }
 
 // Of a facility, a queue, a savevalue, a switch or a user chain.
-fn of_entity(at: Context, notes: &mut Notes, class: Class, of: &Subject) -> Result<Val, Halt>
-    ensures { Decides at.entry.case.version.now at.entry.case.seed
-        (subject_prog of.now ~> (λ key. entity_value at.entry.state.now class key)) result notes.old notes.new }
+fn of_entity(context: Context, notes: &mut Notes, class: Class, of: &Subject) -> Result<Val, Halt>
+    ensures { Decides context.entry.case.version.now context.entry.case.seed
+        (subject_prog of.now ~> (λ key. entity_value context.entry.state.now class key)) result notes.old notes.new }
 {
-    let key = subject(at.case, notes, of)?;
-    entity_value(at.state, class, &key)
+    let key = subject(context.case, notes, of)?;
+    entity_value(context.state, class, &key)
 }
 
 fn entity_value(state: &State, class: Class, key: &Key) -> Result<Val, Halt>
@@ -139,14 +144,14 @@ fn of_table(state: &State, of: &Subject) -> Result<Val, Halt>
 }
 
 // The units of a storage that are left.
-fn left(at: Context, notes: &mut Notes, of: &Subject) -> Result<Val, Halt>
-    ensures { Decides at.entry.case.version.now at.entry.case.seed (left_prog at.entry.state.now of.now)
-        result notes.old notes.new }
+fn left(context: Context, notes: &mut Notes, of: &Subject) -> Result<Val, Halt>
+    ensures { Decides context.entry.case.version.now context.entry.case.seed
+        (left_prog context.entry.state.now of.now) result notes.old notes.new }
 {
     match of {
         Subject::Name(name) => {
-            let capacity = ask_capacity(at.case.version, notes, name)?;
-            units_left(at.state, capacity, &Key::Defined(name.clone()?))
+            let capacity = ask_capacity(context.case.version, notes, name)?;
+            units_left(context.state, capacity, &Key::Defined(name.clone()?))
         }
         _ => Err(Halt::stop(Stop::Range)),
     }
@@ -161,14 +166,14 @@ fn units_left(state: &State, capacity: u64, key: &Key) -> Result<Val, Halt>
 }
 
 // Of a block.
-fn of_block(at: Context, notes: &mut Notes, class: Class, of: &Subject) -> Result<Val, Halt>
-    ensures { Decides at.entry.case.version.now at.entry.case.seed
-        (block_count of.now (λ id. block_value at.entry.state.now class id)) result notes.old notes.new }
+fn of_block(context: Context, notes: &mut Notes, class: Class, of: &Subject) -> Result<Val, Halt>
+    ensures { Decides context.entry.case.version.now context.entry.case.seed
+        (block_count of.now (λ id. block_value context.entry.state.now class id)) result notes.old notes.new }
 {
     match of {
         Subject::Name(name) => {
-            let id = ask_label(at.case.version, notes, name)?;
-            counted(at.state, class, id)
+            let id = ask_label(context.case.version, notes, name)?;
+            counted(context.state, class, id)
         }
         _ => Err(Halt::stop(Stop::Range)),
     }

@@ -1,7 +1,7 @@
 //! What operands come to over a state: values, entities, units, times, and the next transaction of a GENERATE.
 //!
-//! A function gives what its evaluation in the definitions comes to, for whoever asks, or a [`gw_expr::Halt`]. It changes
-//! nothing but the notes of what it asks and draws.
+//! A function gives what its evaluation in the definitions comes to in a [`Context`], or a [`gw_expr::Halt`]. It
+//! changes nothing but the notes of what it asks and draws.
 #![tactic(auto)]
 
 mod arriving;

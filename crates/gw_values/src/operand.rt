@@ -14,79 +14,84 @@ use gw_expr::{Expr, Halt, Node, Stop, eval};
 use gw_meaning::Watched;
 use gw_names::Key;
 use gw_nums::Val;
-use gw_state::State;
 
 // The value of an operand.
-pub fn value(at: Context, notes: &mut Notes, operand: &Expr) -> Result<Val, Halt>
-    ensures { Decides at.entry.case.version.now at.entry.case.seed
-        (value_prog at.entry.state.now at.entry.asker.now operand.now)
-        result notes.old notes.new }
+pub fn value(context: Context, notes: &mut Notes, operand: &Expr) -> Result<Val, Halt>
+    ensures { Decides context.entry.case.version.now context.entry.case.seed
+        (value_prog context.entry.state.now context.entry.asker.now operand.now) result notes.old notes.new }
 {
-    let mut seen = Seen { at, notes };
-    eval(operand, at.case.version, &mut seen)
+    let mut seen = Seen { context, notes };
+    eval(operand, context.case.version, &mut seen)
 }
 
 /// The value of an operand that is there. It stops as its evaluation does, and with X7 where the operand is absent,
 /// which no version that was read lacks.
-pub fn value_there(at: Context, notes: &mut Notes, operand: Option<&Expr>) -> Result<Val, Halt>
-    ensures { Decides at.entry.case.version.now at.entry.case.seed
-        (value_there at.entry.state.now at.entry.asker.now (option_copied operand.entry))
+pub fn value_there(context: Context, notes: &mut Notes, operand: Option<&Expr>) -> Result<Val, Halt>
+    ensures { Decides context.entry.case.version.now context.entry.case.seed
+        (value_there context.entry.state.now context.entry.asker.now (option_copied operand.entry))
         result notes.old notes.new }
 {
     match operand {
-        Some(expr) => value(at, notes, expr),
+        Some(expr) => value(context, notes, expr),
         None => Err(Halt::stop(Stop::Range)),
     }
 }
 
 /// The value of an operand, or 0 where it is absent.
-pub fn value_or_zero(at: Context, notes: &mut Notes, operand: Option<&Expr>) -> Result<Val, Halt>
-    ensures { Decides at.entry.case.version.now at.entry.case.seed
-        (value_or_zero at.entry.state.now at.entry.asker.now (option_copied operand.entry))
+pub fn value_or_zero(
+    context: Context,
+    notes: &mut Notes,
+    operand: Option<&Expr>,
+) -> Result<Val, Halt>
+    ensures { Decides context.entry.case.version.now context.entry.case.seed
+        (value_or_zero context.entry.state.now context.entry.asker.now (option_copied operand.entry))
         result notes.old notes.new }
 {
     match operand {
-        Some(expr) => value(at, notes, expr),
+        Some(expr) => value(context, notes, expr),
         None => Ok(Val::ZERO),
     }
 }
 
 /// The key of the entity that an operand names: a name's own, or the number that it stands for or that the operand
 /// comes to. X7 where that number is below 1.
-pub fn key_of(at: Context, notes: &mut Notes, operand: Option<&Expr>) -> Result<Key, Halt>
-    ensures { Decides at.entry.case.version.now at.entry.case.seed
-        (entity_prog at.entry.state.now at.entry.asker.now (option_copied operand.entry)) result notes.old notes.new }
+pub fn key_of(context: Context, notes: &mut Notes, operand: Option<&Expr>) -> Result<Key, Halt>
+    ensures { Decides context.entry.case.version.now context.entry.case.seed
+        (entity_prog context.entry.state.now context.entry.asker.now (option_copied operand.entry))
+        result notes.old notes.new }
 {
     let Some(expr) = operand else {
         return Err(Halt::stop(Stop::Range));
     };
     match expr.node() {
         Node::Named(name) => {
-            let number = ask_number(at.case.version, notes, name.name())?;
+            let number = ask_number(context.case.version, notes, name.name())?;
             key_named(name.name(), number)
         }
-        _ => computed_entity(at, notes, expr),
+        _ => computed_entity(context, notes, expr),
     }
 }
 
 // The entity whose number is the value of an operand.
-fn computed_entity(at: Context, notes: &mut Notes, operand: &Expr) -> Result<Key, Halt>
-    ensures { Decides at.entry.case.version.now at.entry.case.seed
-        (value_prog at.entry.state.now at.entry.asker.now operand.now ~> numbered) result notes.old notes.new }
+fn computed_entity(context: Context, notes: &mut Notes, operand: &Expr) -> Result<Key, Halt>
+    ensures { Decides context.entry.case.version.now context.entry.case.seed
+        (value_prog context.entry.state.now context.entry.asker.now operand.now ~> numbered)
+        result notes.old notes.new }
 {
-    let number = value(at, notes, operand)?;
+    let number = value(context, notes, operand)?;
     key_numbered(number)
 }
 
 /// How many units an operand says, and 1 where it is absent. X11 where it says less than 1.
-pub fn units_of(at: Context, notes: &mut Notes, operand: Option<&Expr>) -> Result<u32, Halt>
-    ensures { Decides at.entry.case.version.now at.entry.case.seed
-        (units_prog at.entry.state.now at.entry.asker.now (option_copied operand.entry)) result notes.old notes.new }
+pub fn units_of(context: Context, notes: &mut Notes, operand: Option<&Expr>) -> Result<u32, Halt>
+    ensures { Decides context.entry.case.version.now context.entry.case.seed
+        (units_prog context.entry.state.now context.entry.asker.now (option_copied operand.entry))
+        result notes.old notes.new }
 {
     let Some(expr) = operand else {
         return Ok(1);
     };
-    let units = value(at, notes, expr)?;
+    let units = value(context, notes, expr)?;
     if units.get() < 1 {
         return Err(Halt::stop(Stop::BadCount));
     }
@@ -96,69 +101,68 @@ pub fn units_of(at: Context, notes: &mut Notes, operand: Option<&Expr>) -> Resul
 /// The value of an operand that is there. What a block may write of what it reads comes behind what was read before,
 /// each thing once.
 pub fn value_traced(
-    at: Context,
+    context: Context,
     notes: &mut Notes,
     read: &mut Vec<Watched>,
     operand: Option<&Expr>,
 ) -> Result<Val, Halt>
-    ensures { Decides at.entry.case.version.now at.entry.case.seed
-        (value_traced at.entry.state.now at.entry.asker.now read.old.items (option_copied operand.entry))
+    ensures { Decides context.entry.case.version.now context.entry.case.seed
+        (value_traced context.entry.state.now context.entry.asker.now read.old.items (option_copied operand.entry))
         (with_read result read.new.items) notes.old notes.new }
 {
     match operand {
-        Some(expr) => evaluation_traced(at, notes, read, expr),
+        Some(expr) => evaluation_traced(context, notes, read, expr),
         None => Err(Halt::stop(Stop::Range)),
     }
 }
 
 fn evaluation_traced(
-    at: Context,
+    context: Context,
     notes: &mut Notes,
     read: &mut Vec<Watched>,
     operand: &Expr,
 ) -> Result<Val, Halt>
-    ensures { Decides at.entry.case.version.now at.entry.case.seed
-        (traced at.entry.state.now at.entry.asker.now read.old.items (value_of operand.now))
-        (with_read result read.new.items) notes.old notes.new }
+    ensures { Decides context.entry.case.version.now context.entry.case.seed
+        (traced context.entry.state.now context.entry.asker.now read.old.items (value_of operand.now)) (with_read
+        result read.new.items) notes.old notes.new }
 {
-    let seen = Seen { at, notes };
+    let seen = Seen { context, notes };
     let mut traced = Traced { seen, read };
-    eval(operand, at.case.version, &mut traced)
+    eval(operand, context.case.version, &mut traced)
 }
 
 /// The key of the entity that an operand names, with what was read to find it.
 pub fn entity_traced(
-    at: Context,
+    context: Context,
     notes: &mut Notes,
     read: &mut Vec<Watched>,
     operand: &Expr,
 ) -> Result<Key, Halt>
     requires { read.old.items ≡ [] }
-    ensures { Decides at.entry.case.version.now at.entry.case.seed
-        (entity_traced at.entry.state.now at.entry.asker.now (Some operand.now)) (with_read result read.new.items)
-        notes.old notes.new }
+    ensures { Decides context.entry.case.version.now context.entry.case.seed
+        (entity_traced context.entry.state.now context.entry.asker.now (Some operand.now)) (with_read result
+        read.new.items) notes.old notes.new }
 {
     match operand.node() {
         Node::Named(name) => {
-            let number = ask_number(at.case.version, notes, name.name())?;
+            let number = ask_number(context.case.version, notes, name.name())?;
             key_named(name.name(), number)
         }
-        _ => computed_traced(at, notes, read, operand),
+        _ => computed_traced(context, notes, read, operand),
     }
 }
 
 // The entity whose number is the value of an operand, with what that reads.
 fn computed_traced(
-    at: Context,
+    context: Context,
     notes: &mut Notes,
     read: &mut Vec<Watched>,
     operand: &Expr,
 ) -> Result<Key, Halt>
-    ensures { Decides at.entry.case.version.now at.entry.case.seed
-        (traced at.entry.state.now at.entry.asker.now read.old.items (value_of operand.now) ~>
-        (λ r. numbered r.0 ~> (λ key. gives (key, r.1)))) (with_read result read.new.items)
-        notes.old notes.new }
+    ensures { Decides context.entry.case.version.now context.entry.case.seed
+        (traced context.entry.state.now context.entry.asker.now read.old.items (value_of operand.now) ~>
+        (λ r. numbered r.0 ~> (λ key. gives (key, r.1)))) (with_read result read.new.items) notes.old notes.new }
 {
-    let number = evaluation_traced(at, notes, read, operand)?;
+    let number = evaluation_traced(context, notes, read, operand)?;
     key_numbered(number)
 }

@@ -8,12 +8,11 @@ use gw_expr::{Halt, Sna, Subject, World};
 use gw_meaning::Asked;
 use gw_names::Name;
 use gw_nums::{Millionths, Val};
-use gw_state::State;
 
-// What an evaluation of operands asks, and where it notes what it asks for.
+// A context, and where what is asked of it is noted.
 #[derive(Drop)]
 pub struct Seen<'a> {
-    pub at: Context<'a>,
+    pub context: Context<'a>,
     pub notes: &'a mut Notes,
 }
 
@@ -21,15 +20,15 @@ impl<'a> World for Seen<'a> {
     ghost replies = { Replies };
 
     fn number(&mut self, name: &Name) -> Result<Option<Val>, Halt> {
-        Ok(ask_number(self.at.case.version, self.notes, name)?)
+        Ok(ask_number(self.context.case.version, self.notes, name)?)
     }
 
     fn attribute(&mut self, sna: Sna<'_>) -> Result<Val, Halt> {
-        attribute(self.at, self.notes, sna.class, sna.of)
+        attribute(self.context, self.notes, sna.class, sna.of)
     }
 
     fn part(&mut self, of: &Subject) -> Result<Millionths, Halt> {
-        random_part(self.at.case, self.notes, of)
+        random_part(self.context.case, self.notes, of)
     }
 
     fn note_variable(&mut self, name: &Name) -> Result<(), Halt> {

@@ -9,58 +9,55 @@ use crate::seen::Seen;
 use gw_asking::{Notes, modifier_of, multiplied, sample};
 use gw_expr::{Expr, Halt, Subject, eval_function};
 use gw_nums::Val;
-use gw_state::State;
 
 /// A time in ticks: mean plus or minus range, drawn from stream 1 where the range is above 0, or mean times the
 /// FUNCTION that stands in the place of a range. It may be below 0, as where the range is; X7 where it is no value.
 pub fn time(
-    at: Context,
+    context: Context,
     notes: &mut Notes,
     mean: Option<&Expr>,
     range: Option<&Expr>,
 ) -> Result<Val, Halt>
-    ensures { Decides at.entry.case.version.now at.entry.case.seed
-        (time_prog at.entry.state.now at.entry.asker.now (option_copied mean.entry)
-        (option_copied range.entry))
-        result notes.old notes.new }
+    ensures { Decides context.entry.case.version.now context.entry.case.seed
+        (time_prog context.entry.state.now context.entry.asker.now (option_copied mean.entry)
+        (option_copied range.entry)) result notes.old notes.new }
 {
     match modifier_of(range) {
-        Some(of) => time_by_function(at, notes, mean, range, of),
-        None => time_within(at, notes, mean, range),
+        Some(of) => time_by_function(context, notes, mean, range, of),
+        None => time_within(context, notes, mean, range),
     }
 }
 
 // A time of mean times a FUNCTION: nothing is drawn for a range.
 fn time_by_function(
-    at: Context,
+    context: Context,
     notes: &mut Notes,
     mean: Option<&Expr>,
     range: Option<&Expr>,
     of: &Subject,
 ) -> Result<Val, Halt>
-    ensures { Decides at.entry.case.version.now at.entry.case.seed
-        (time_by at.entry.state.now at.entry.asker.now (option_copied mean.entry) (option_copied range.entry)
-        (Some of.now))
-        result notes.old notes.new }
+    ensures { Decides context.entry.case.version.now context.entry.case.seed
+        (time_by context.entry.state.now context.entry.asker.now (option_copied mean.entry) (option_copied range.entry)
+        (Some of.now)) result notes.old notes.new }
 {
-    let mean = value_or_zero(at, notes, mean)?;
-    let mut seen = Seen { at, notes };
-    let by = eval_function(of, at.case.version, &mut seen)?;
+    let mean = value_or_zero(context, notes, mean)?;
+    let mut seen = Seen { context, notes };
+    let by = eval_function(of, context.case.version, &mut seen)?;
     multiplied(mean, by)
 }
 
 // A time of mean plus or minus range.
 fn time_within(
-    at: Context,
+    context: Context,
     notes: &mut Notes,
     mean: Option<&Expr>,
     range: Option<&Expr>,
 ) -> Result<Val, Halt>
-    ensures { Decides at.entry.case.version.now at.entry.case.seed
-        (time_by at.entry.state.now at.entry.asker.now (option_copied mean.entry) (option_copied range.entry) None)
-        result notes.old notes.new }
+    ensures { Decides context.entry.case.version.now context.entry.case.seed
+        (time_by context.entry.state.now context.entry.asker.now (option_copied mean.entry) (option_copied range.entry)
+        None) result notes.old notes.new }
 {
-    let mean = value_or_zero(at, notes, mean)?;
-    let range = value_or_zero(at, notes, range)?;
-    sample(at.case, notes, mean, range)
+    let mean = value_or_zero(context, notes, mean)?;
+    let range = value_or_zero(context, notes, range)?;
+    sample(context.case, notes, mean, range)
 }

@@ -49,14 +49,14 @@ impl<'a> World for Traced<'a> {
 impl Traced<'_> {
     // The value of an attribute, with what it reads.
     fn of_attribute(&mut self, sna: Sna<'_>) -> Result<Val, Halt>
-        ensures decided { Decides self.old.seen.at.case.version.now self.old.seen.at.case.seed
-            (attribute_traced self.old.seen.at.state.now self.old.seen.at.asker.now self.old.read.now.items
+        ensures decided { Decides self.old.seen.context.case.version.now self.old.seen.context.case.seed
+            (attribute_traced self.old.seen.context.state.now self.old.seen.context.asker.now self.old.read.now.items
             sna.entry.class sna.entry.of.now) (with_read result self.new.read.now.items)
             self.old.seen.notes.now self.new.seen.notes.now }
         ensures same { IsTracedStill self.old self.new }
     {
         let seen = &mut self.seen;
-        let thing = watched(seen.at.case, seen.notes, sna.class, sna.of)?;
+        let thing = watched(seen.context.case, seen.notes, sna.class, sna.of)?;
         let value = seen.attribute(sna)?;
         keep(self.read, thing)?;
         Ok(value)

@@ -12,21 +12,21 @@ use gw_values::{Context, time, value_or_zero};
 
 /// ADVANCE: the transaction is held for a time; one of 0 leaves it active. X1 where the time is below 0.
 pub fn decide_advance(
-    at: Context,
+    context: Context,
     notes: &mut Notes,
     id: StatementId,
     mean: Option<&Expr>,
     range: Option<&Expr>,
 ) -> Result<Move, Halt>
-    ensures { Decides at.entry.case.version.now at.entry.case.seed
-        (advance_prog at.entry.state.now at.entry.asker.now id (option_copied mean.entry) (option_copied range.entry))
-        result notes.old notes.new }
+    ensures { Decides context.entry.case.version.now context.entry.case.seed
+        (advance_prog context.entry.state.now context.entry.asker.now id (option_copied mean.entry)
+        (option_copied range.entry)) result notes.old notes.new }
 {
-    let time = time(at, notes, mean, range)?;
+    let time = time(context, notes, mean, range)?;
     if time.is_negative() {
         return Err(Halt::stop(Stop::NegativeTime));
     }
-    Ok(enter_for(id, delay(at.state, time.magnitude())))
+    Ok(enter_for(id, delay(context.state, time.magnitude())))
 }
 
 // What becomes of a transaction that is held so many ticks.
@@ -44,16 +44,16 @@ fn delay(state: &State, ticks: u64) -> Fate
 
 /// TERMINATE: the transaction is destroyed, and takes A, or 0, from the termination count. X11 where A is below 0.
 pub fn decide_terminate(
-    at: Context,
+    context: Context,
     notes: &mut Notes,
     id: StatementId,
     count: Option<&Expr>,
 ) -> Result<Move, Halt>
-    ensures { Decides at.entry.case.version.now at.entry.case.seed
-        (terminate_prog at.entry.state.now at.entry.asker.now id (option_copied count.entry))
+    ensures { Decides context.entry.case.version.now context.entry.case.seed
+        (terminate_prog context.entry.state.now context.entry.asker.now id (option_copied count.entry))
         result notes.old notes.new }
 {
-    let count = value_or_zero(at, notes, count)?;
+    let count = value_or_zero(context, notes, count)?;
     if count.is_negative() {
         return Err(Halt::stop(Stop::BadCount));
     }

@@ -1,5 +1,5 @@
-// GATE: a transaction passes where a condition of an entity holds. Else it goes to a block, or waits for a change of the
-// entity where no label stands there.
+// GATE: a transaction passes where a condition of an entity holds. Else it goes to a block, or waits for a change of
+// the entity where no label stands there.
 ghost use Rattle.std.specs.Prelude.{◌≡◌, [], List, Some, None, option_copied};
 ghost use Rattle.gw_meaning.specs.declared.watched.Watched.{Watched};
 ghost use Rattle.gw_meaning.specs.Entities.{store_at};
@@ -18,17 +18,16 @@ use gw_values::{Context, entity_traced, keep_once, key_of};
 /// GATE: the transaction passes where the condition that the operator says holds of its entity. Else it goes to the
 /// block with the label, or, where no label stands there, waits for a change of the entity.
 pub fn decide_gate(
-    at: Context,
+    context: Context,
     notes: &mut Notes,
     id: StatementId,
     operator: Auxiliary,
     entity: Option<&Expr>,
     label: Option<&Expr>,
 ) -> Result<Move, Halt>
-    ensures { Decides at.entry.case.version.now at.entry.case.seed
-        (gate_prog at.entry.state.now at.entry.asker.now id operator (option_copied entity.entry)
-        (option_copied label.entry))
-        result notes.old notes.new }
+    ensures { Decides context.entry.case.version.now context.entry.case.seed
+        (gate_prog context.entry.state.now context.entry.asker.now id operator (option_copied entity.entry)
+        (option_copied label.entry)) result notes.old notes.new }
 {
     let Auxiliary::Gate(condition) = operator else {
         return Err(Halt::stop(Stop::NoNextBlock));
@@ -37,60 +36,60 @@ pub fn decide_gate(
         return Err(Halt::stop(Stop::Range));
     };
     match expr.node() {
-        Node::Defined(name) => gate_storage(at, notes, id, condition, name, label),
-        _ => gate_other(at, notes, id, condition, expr, label),
+        Node::Defined(name) => gate_storage(context, notes, id, condition, name, label),
+        _ => gate_other(context, notes, id, condition, expr, label),
     }
 }
 
 // A GATE of a facility or a switch. Where it may wait, what is read to find the entity is kept.
 fn gate_other(
-    at: Context,
+    context: Context,
     notes: &mut Notes,
     id: StatementId,
     condition: Condition,
     entity: &Expr,
     label: Option<&Expr>,
 ) -> Result<Move, Halt>
-    ensures { Decides at.entry.case.version.now at.entry.case.seed
-        (gate_other at.entry.state.now at.entry.asker.now id condition (Some entity.now) (option_copied label.entry))
-        result notes.old notes.new }
+    ensures { Decides context.entry.case.version.now context.entry.case.seed
+        (gate_other context.entry.state.now context.entry.asker.now id condition (Some entity.now)
+        (option_copied label.entry)) result notes.old notes.new }
 {
     match label {
         Some(label) => {
-            let key = key_of(at, notes, Some(entity))?;
-            gate_or_lead(at, notes, id, condition, label, &key, 0)
+            let key = key_of(context, notes, Some(entity))?;
+            gate_or_lead(context, notes, id, condition, label, &key, 0)
         }
         None => {
-            let mut read = Vec::new(at.case.alloc);
-            let key = entity_traced(at, notes, &mut read, entity)?;
-            gate_or_wait(at.state, id, condition, key, read, 0)
+            let mut read = Vec::new(context.case.alloc);
+            let key = entity_traced(context, notes, &mut read, entity)?;
+            gate_or_wait(context.state, id, condition, key, read, 0)
         }
     }
 }
 
 // A GATE of a storage: its capacity is asked for only where the condition hangs on it.
 fn gate_storage(
-    at: Context,
+    context: Context,
     notes: &mut Notes,
     id: StatementId,
     condition: Condition,
     name: &StorageName,
     label: Option<&Expr>,
 ) -> Result<Move, Halt>
-    ensures { Decides at.entry.case.version.now at.entry.case.seed
-        (gate_storage at.entry.state.now id condition (option_copied label.entry) name.now (reads_capacity condition))
-        result notes.old notes.new }
+    ensures { Decides context.entry.case.version.now context.entry.case.seed
+        (gate_storage context.entry.state.now id condition (option_copied label.entry) name.now
+        (reads_capacity condition)) result notes.old notes.new }
 {
     if !reads_capacity(condition) {
-        return gate_at(at, notes, id, condition, label, name.key(), 0);
+        return gate_at(context, notes, id, condition, label, name.key(), 0);
     }
-    let capacity = ask_capacity(at.case.version, notes, name.name())?;
-    gate_at(at, notes, id, condition, label, name.key(), capacity)
+    let capacity = ask_capacity(context.case.version, notes, name.name())?;
+    gate_at(context, notes, id, condition, label, name.key(), capacity)
 }
 
 // A GATE of the storage with a key, which has so many units.
 fn gate_at(
-    at: Context,
+    context: Context,
     notes: &mut Notes,
     id: StatementId,
     condition: Condition,
@@ -98,22 +97,22 @@ fn gate_at(
     key: &Key,
     capacity: u64,
 ) -> Result<Move, Halt>
-    ensures { Decides at.entry.case.version.now at.entry.case.seed
-        (gate_at at.entry.state.now id condition (option_copied label.entry) key.now [] capacity)
+    ensures { Decides context.entry.case.version.now context.entry.case.seed
+        (gate_at context.entry.state.now id condition (option_copied label.entry) key.now [] capacity)
         result notes.old notes.new }
 {
     match label {
-        Some(label) => gate_or_lead(at, notes, id, condition, label, key, capacity),
+        Some(label) => gate_or_lead(context, notes, id, condition, label, key, capacity),
         None => {
-            let read = Vec::new(at.case.alloc);
-            gate_or_wait(at.state, id, condition, key.clone()?, read, capacity)
+            let read = Vec::new(context.case.alloc);
+            gate_or_wait(context.state, id, condition, key.clone()?, read, capacity)
         }
     }
 }
 
 // On where the condition holds of the entity with a key, and else to the block with the label.
 fn gate_or_lead(
-    at: Context,
+    context: Context,
     notes: &mut Notes,
     id: StatementId,
     condition: Condition,
@@ -121,13 +120,14 @@ fn gate_or_lead(
     key: &Key,
     capacity: u64,
 ) -> Result<Move, Halt>
-    ensures { (read : List Watched) → Decides at.entry.case.version.now at.entry.case.seed
-        (gate_at at.entry.state.now id condition (Some label.now) key.now read capacity) result notes.old notes.new }
+    ensures { (read : List Watched) → Decides context.entry.case.version.now context.entry.case.seed
+        (gate_at context.entry.state.now id condition (Some label.now) key.now read capacity)
+        result notes.old notes.new }
 {
-    if is_open(at.state, condition, key, capacity) {
+    if is_open(context.state, condition, key, capacity) {
         return Ok(pass(id));
     }
-    lead_to(at.case, notes, id, Some(label))
+    lead_to(context.case, notes, id, Some(label))
 }
 
 // On where the condition holds of the entity with a key; else the transaction waits for a change of it, and of what was

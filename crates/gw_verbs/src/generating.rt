@@ -11,7 +11,7 @@ use gw_values::{Context, arrival, for_none};
 /// GENERATE: the transaction comes off it, and the next one is made, if any. X8 where it came from another block; else
 /// it stops as [`gw_values::arrival`] does.
 pub fn decide_generate(
-    at: Context,
+    context: Context,
     notes: &mut Notes,
     x: &Transaction,
     id: StatementId,
@@ -20,18 +20,18 @@ pub fn decide_generate(
     limit: Option<&Expr>,
     priority: Option<&Expr>,
 ) -> Result<Move, Halt>
-    ensures { Decides at.entry.case.version.now at.entry.case.seed
-        (generate_prog at.entry.state.now x.now id (option_copied mean.entry) (option_copied range.entry)
+    ensures { Decides context.entry.case.version.now context.entry.case.seed
+        (generate_prog context.entry.state.now x.now id (option_copied mean.entry) (option_copied range.entry)
         (option_copied limit.entry) (option_copied priority.entry)) result notes.old notes.new }
 {
     if x.current.number() != 0 {
         return Err(Halt::stop(Stop::NoNextBlock));
     }
-    let at = Context {
-        asker: &for_none(at.state.remaining()),
-        ..at
+    let context = Context {
+        asker: &for_none(context.state.remaining()),
+        ..context
     };
-    let next = arrival(at, notes, id, mean, range, limit, priority)?;
+    let next = arrival(context, notes, id, mean, range, limit, priority)?;
     Ok(Move::Enter {
         id,
         change: Change::Generate { next },

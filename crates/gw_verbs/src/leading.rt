@@ -14,7 +14,7 @@ use gw_values::{Context, value_there, value_traced};
 /// TEST: the transaction goes on where the relation of two values holds. Else it goes to the block with the label, or,
 /// where no label stands there, waits for a change of what they read.
 pub fn decide_test(
-    at: Context,
+    context: Context,
     notes: &mut Notes,
     id: StatementId,
     relation: Auxiliary,
@@ -22,19 +22,18 @@ pub fn decide_test(
     second: Option<&Expr>,
     label: Option<&Expr>,
 ) -> Result<Move, Halt>
-    ensures { Decides at.entry.case.version.now at.entry.case.seed
-        (test_prog at.entry.state.now at.entry.asker.now id relation (option_copied first.entry)
-        (option_copied second.entry)
-        (option_copied label.entry)) result notes.old notes.new }
+    ensures { Decides context.entry.case.version.now context.entry.case.seed
+        (test_prog context.entry.state.now context.entry.asker.now id relation (option_copied first.entry)
+        (option_copied second.entry) (option_copied label.entry)) result notes.old notes.new }
 {
     match label {
-        Some(label) => { test_or_lead(at, notes, id, relation, first, second, label) }
-        None => test_or_wait(at, notes, id, relation, first, second),
+        Some(label) => test_or_lead(context, notes, id, relation, first, second, label),
+        None => test_or_wait(context, notes, id, relation, first, second),
     }
 }
 
 fn test_or_lead(
-    at: Context,
+    context: Context,
     notes: &mut Notes,
     id: StatementId,
     relation: Auxiliary,
@@ -42,35 +41,33 @@ fn test_or_lead(
     second: Option<&Expr>,
     label: &Expr,
 ) -> Result<Move, Halt>
-    ensures { Decides at.entry.case.version.now at.entry.case.seed
-        (test_prog at.entry.state.now at.entry.asker.now id relation (option_copied first.entry)
-        (option_copied second.entry)
-        (Some label.now)) result notes.old notes.new }
+    ensures { Decides context.entry.case.version.now context.entry.case.seed
+        (test_prog context.entry.state.now context.entry.asker.now id relation (option_copied first.entry)
+        (option_copied second.entry) (Some label.now)) result notes.old notes.new }
 {
-    let first = value_there(at, notes, first)?;
-    let second = value_there(at, notes, second)?;
+    let first = value_there(context, notes, first)?;
+    let second = value_there(context, notes, second)?;
     if holds(relation, first, second) {
         return Ok(pass(id));
     }
-    lead_to(at.case, notes, id, Some(label))
+    lead_to(context.case, notes, id, Some(label))
 }
 
 fn test_or_wait(
-    at: Context,
+    context: Context,
     notes: &mut Notes,
     id: StatementId,
     relation: Auxiliary,
     first: Option<&Expr>,
     second: Option<&Expr>,
 ) -> Result<Move, Halt>
-    ensures { Decides at.entry.case.version.now at.entry.case.seed
-        (test_or_wait at.entry.state.now at.entry.asker.now id relation (option_copied first.entry)
-        (option_copied second.entry))
-        result notes.old notes.new }
+    ensures { Decides context.entry.case.version.now context.entry.case.seed
+        (test_or_wait context.entry.state.now context.entry.asker.now id relation (option_copied first.entry)
+        (option_copied second.entry)) result notes.old notes.new }
 {
-    let mut read = Vec::new(at.case.alloc);
-    let first = value_traced(at, notes, &mut read, first)?;
-    let second = value_traced(at, notes, &mut read, second)?;
+    let mut read = Vec::new(context.case.alloc);
+    let first = value_traced(context, notes, &mut read, first)?;
+    let second = value_traced(context, notes, &mut read, second)?;
     Ok(pass_or_watch(id, holds(relation, first, second), read))
 }
 

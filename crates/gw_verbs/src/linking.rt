@@ -15,22 +15,22 @@ use gw_values::{Context, key_of, units_of};
 
 /// LINK: the transaction goes to the back of a user chain by FIFO, to the front by LIFO.
 pub fn decide_link(
-    at: Context,
+    context: Context,
     notes: &mut Notes,
     id: StatementId,
     entity: Option<&Expr>,
     order: Option<&Expr>,
 ) -> Result<Move, Halt>
-    ensures { Decides at.entry.case.version.now at.entry.case.seed
-        (link_prog at.entry.state.now at.entry.asker.now id (option_copied entity.entry) (option_copied order.entry))
-        result notes.old notes.new }
+    ensures { Decides context.entry.case.version.now context.entry.case.seed
+        (link_prog context.entry.state.now context.entry.asker.now id (option_copied entity.entry)
+        (option_copied order.entry)) result notes.old notes.new }
 {
     let Some(expr) = order else {
         return Err(Halt::stop(Stop::NoNextBlock));
     };
     match expr.node() {
         Node::Order(discipline) => {
-            let key = key_of(at, notes, entity)?;
+            let key = key_of(context, notes, entity)?;
             Ok(link_to(id, key, *discipline))
         }
         _ => Err(Halt::stop(Stop::NoNextBlock)),
@@ -40,33 +40,38 @@ pub fn decide_link(
 /// UNLINK: so many from the front of a user chain, or all, go to the block with the label, which is asked for only
 /// where somebody goes. X11 where the count is below 1.
 pub fn decide_unlink(
-    at: Context,
+    context: Context,
     notes: &mut Notes,
     id: StatementId,
     entity: Option<&Expr>,
     label: Option<&Expr>,
     count: Option<&Expr>,
 ) -> Result<Move, Halt>
-    ensures { Decides at.entry.case.version.now at.entry.case.seed
-        (unlink_prog at.entry.state.now at.entry.asker.now id (option_copied entity.entry) (option_copied label.entry)
-        (option_copied count.entry)) result notes.old notes.new }
+    ensures { Decides context.entry.case.version.now context.entry.case.seed
+        (unlink_prog context.entry.state.now context.entry.asker.now id (option_copied entity.entry)
+        (option_copied label.entry) (option_copied count.entry)) result notes.old notes.new }
 {
-    let key = key_of(at, notes, entity)?;
-    let there = at.state.linked().len(&key) as u64;
-    let count = leaving(at, notes, count, there)?;
-    unlink_count(at.case, notes, id, key, label, count)
+    let key = key_of(context, notes, entity)?;
+    let there = context.state.linked().len(&key) as u64;
+    let count = leaving(context, notes, count, there)?;
+    unlink_count(context.case, notes, id, key, label, count)
 }
 
 // How many leave of so many: all, or no more than the count says.
-fn leaving(at: Context, notes: &mut Notes, count: Option<&Expr>, there: u64) -> Result<u64, Halt>
-    ensures { Decides at.entry.case.version.now at.entry.case.seed
-        (leaving_prog at.entry.state.now at.entry.asker.now (option_copied count.entry) there)
+fn leaving(
+    context: Context,
+    notes: &mut Notes,
+    count: Option<&Expr>,
+    there: u64,
+) -> Result<u64, Halt>
+    ensures { Decides context.entry.case.version.now context.entry.case.seed
+        (leaving_prog context.entry.state.now context.entry.asker.now (option_copied count.entry) there)
         result notes.old notes.new }
 {
     let Some(expr) = count else {
         return Ok(there);
     };
-    let units = units_of(at, notes, Some(expr))?;
+    let units = units_of(context, notes, Some(expr))?;
     Ok(u64::from(units).min(there))
 }
 

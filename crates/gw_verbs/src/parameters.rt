@@ -15,40 +15,39 @@ use gw_values::{Context, key_of, value_there};
 /// ASSIGN: a parameter is set, or B is added to it or taken from it; an absent one counts as 0 then. X7 where what
 /// comes of it is no value.
 pub fn decide_assign(
-    at: Context,
+    context: Context,
     notes: &mut Notes,
     id: StatementId,
     sign: Auxiliary,
     parameter: Option<&Expr>,
     value: Option<&Expr>,
 ) -> Result<Move, Halt>
-    ensures { Decides at.entry.case.version.now at.entry.case.seed
-        (assign_prog at.entry.state.now at.entry.asker.now id sign (option_copied parameter.entry)
-        (option_copied value.entry))
-        result notes.old notes.new }
+    ensures { Decides context.entry.case.version.now context.entry.case.seed
+        (assign_prog context.entry.state.now context.entry.asker.now id sign (option_copied parameter.entry)
+        (option_copied value.entry)) result notes.old notes.new }
 {
-    let key = key_of(at, notes, parameter)?;
-    let value = value_there(at, notes, value)?;
-    let was = at.state.parameters().get(at.asker.number, &key);
+    let key = key_of(context, notes, parameter)?;
+    let value = value_there(context, notes, value)?;
+    let was = context.state.parameters().get(context.asker.number, &key);
     assign_with(id, sign, key, was, value)
 }
 
 /// LOOP: a parameter loses 1, and the transaction goes to the block with the label while it is not 0. X5 where it is
 /// absent, X7 where what is left is no value.
 pub fn decide_loop(
-    at: Context,
+    context: Context,
     notes: &mut Notes,
     id: StatementId,
     parameter: Option<&Expr>,
     label: Option<&Expr>,
 ) -> Result<Move, Halt>
-    ensures { Decides at.entry.case.version.now at.entry.case.seed
-        (loop_prog at.entry.state.now at.entry.asker.now id (option_copied parameter.entry) (option_copied label.entry))
-        result notes.old notes.new }
+    ensures { Decides context.entry.case.version.now context.entry.case.seed
+        (loop_prog context.entry.state.now context.entry.asker.now id (option_copied parameter.entry)
+        (option_copied label.entry)) result notes.old notes.new }
 {
-    let key = key_of(at, notes, parameter)?;
-    let left = left_of(at.state.parameters().get(at.asker.number, &key))?;
-    loop_with(at.case, notes, id, key, left, label)
+    let key = key_of(context, notes, parameter)?;
+    let left = left_of(context.state.parameters().get(context.asker.number, &key))?;
+    loop_with(context.case, notes, id, key, left, label)
 }
 
 fn assign_with(

@@ -11,16 +11,16 @@ use gw_values::{Context, value_there};
 
 /// PRIORITY: the transaction gets another priority, and stays active.
 pub fn decide_priority(
-    at: Context,
+    context: Context,
     notes: &mut Notes,
     id: StatementId,
     priority: Option<&Expr>,
 ) -> Result<Move, Halt>
-    ensures { Decides at.entry.case.version.now at.entry.case.seed
-        (priority_prog at.entry.state.now at.entry.asker.now id (option_copied priority.entry))
+    ensures { Decides context.entry.case.version.now context.entry.case.seed
+        (priority_prog context.entry.state.now context.entry.asker.now id (option_copied priority.entry))
         result notes.old notes.new }
 {
-    let to = value_there(at, notes, priority)?;
+    let to = value_there(context, notes, priority)?;
     Ok(enter_with(id, TransactionChange::Priority { to }))
 }
 

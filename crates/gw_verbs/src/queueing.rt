@@ -13,41 +13,40 @@ use gw_values::{Context, key_of, units_of};
 
 /// QUEUE: units come to a queue. X12 where its content or its entries would be above 1,000,000,000.
 pub fn decide_queue(
-    at: Context,
+    context: Context,
     notes: &mut Notes,
     id: StatementId,
     entity: Option<&Expr>,
     units: Option<&Expr>,
 ) -> Result<Move, Halt>
-    ensures { Decides at.entry.case.version.now at.entry.case.seed
-        (queue_prog at.entry.state.now at.entry.asker.now id (option_copied entity.entry)
+    ensures { Decides context.entry.case.version.now context.entry.case.seed
+        (queue_prog context.entry.state.now context.entry.asker.now id (option_copied entity.entry)
         (option_copied units.entry)) result notes.old notes.new }
 {
-    let key = key_of(at, notes, entity)?;
-    let units = units_of(at, notes, units)?;
-    let line = at.state.entities().queue(&key);
+    let key = key_of(context, notes, entity)?;
+    let units = units_of(context, notes, units)?;
+    let line = context.state.entities().queue(&key);
     queue_units(id, key, line, u64::from(units))
 }
 
 /// DEPART: units leave a queue, as zero entries where the transaction came in this tick. X4 where fewer are there, X12
 /// where the zero entries would be above 1,000,000,000.
 pub fn decide_depart(
-    at: Context,
+    context: Context,
     notes: &mut Notes,
     x: &Transaction,
     id: StatementId,
     entity: Option<&Expr>,
     units: Option<&Expr>,
 ) -> Result<Move, Halt>
-    ensures { Decides at.entry.case.version.now at.entry.case.seed
-        (depart_prog at.entry.state.now at.entry.asker.now x.now id (option_copied entity.entry)
-        (option_copied units.entry))
-        result notes.old notes.new }
+    ensures { Decides context.entry.case.version.now context.entry.case.seed
+        (depart_prog context.entry.state.now context.entry.asker.now x.now id (option_copied entity.entry)
+        (option_copied units.entry)) result notes.old notes.new }
 {
-    let key = key_of(at, notes, entity)?;
-    let units = units_of(at, notes, units)?;
-    let line = at.state.entities().queue(&key);
-    let at_once = at.state.entities().has_come(&key, x.number);
+    let key = key_of(context, notes, entity)?;
+    let units = units_of(context, notes, units)?;
+    let line = context.state.entities().queue(&key);
+    let at_once = context.state.entities().has_come(&key, x.number);
     depart_units(id, key, line, at_once, u64::from(units))
 }
 

@@ -15,21 +15,20 @@ use gw_values::{Context, key_of, value_there};
 /// SAVEVALUE: a savevalue is set to the value of B, or that is added to it or taken from it. X7 where what comes of it
 /// is no value.
 pub fn decide_savevalue(
-    at: Context,
+    context: Context,
     notes: &mut Notes,
     id: StatementId,
     sign: Auxiliary,
     entity: Option<&Expr>,
     value: Option<&Expr>,
 ) -> Result<Move, Halt>
-    ensures { Decides at.entry.case.version.now at.entry.case.seed
-        (savevalue_prog at.entry.state.now at.entry.asker.now id sign (option_copied entity.entry)
-        (option_copied value.entry))
-        result notes.old notes.new }
+    ensures { Decides context.entry.case.version.now context.entry.case.seed
+        (savevalue_prog context.entry.state.now context.entry.asker.now id sign (option_copied entity.entry)
+        (option_copied value.entry)) result notes.old notes.new }
 {
-    let key = key_of(at, notes, entity)?;
-    let value = value_there(at, notes, value)?;
-    let was = at.state.entities().savevalue(&key);
+    let key = key_of(context, notes, entity)?;
+    let value = value_there(context, notes, value)?;
+    let was = context.state.entities().savevalue(&key);
     savevalue_with(id, sign, key, was, value)
 }
 

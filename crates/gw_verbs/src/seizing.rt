@@ -14,34 +14,35 @@ use gw_values::{Context, key_of};
 
 /// SEIZE: a facility is taken, or waited for where it is owned, also by the transaction itself.
 pub fn decide_seize(
-    at: Context,
+    context: Context,
     notes: &mut Notes,
     id: StatementId,
     entity: Option<&Expr>,
 ) -> Result<Move, Halt>
-    ensures { Decides at.entry.case.version.now at.entry.case.seed
-        (seize_prog at.entry.state.now at.entry.asker.now id (option_copied entity.entry)) result notes.old notes.new }
+    ensures { Decides context.entry.case.version.now context.entry.case.seed
+        (seize_prog context.entry.state.now context.entry.asker.now id (option_copied entity.entry))
+        result notes.old notes.new }
 {
-    let key = key_of(at, notes, entity)?;
-    let owned = at.state.entities().facility(&key).is_owned();
+    let key = key_of(context, notes, entity)?;
+    let owned = context.state.entities().facility(&key).is_owned();
     seize_or_wait(id, key, owned)
 }
 
 /// RELEASE: the owner gives a facility back, to the first that waits for it. X2 where the transaction does not own it.
 pub fn decide_release(
-    at: Context,
+    context: Context,
     notes: &mut Notes,
     x: &Transaction,
     id: StatementId,
     entity: Option<&Expr>,
 ) -> Result<Move, Halt>
-    ensures { Decides at.entry.case.version.now at.entry.case.seed
-        (release_prog at.entry.state.now at.entry.asker.now x.now id (option_copied entity.entry))
+    ensures { Decides context.entry.case.version.now context.entry.case.seed
+        (release_prog context.entry.state.now context.entry.asker.now x.now id (option_copied entity.entry))
         result notes.old notes.new }
 {
-    let key = key_of(at, notes, entity)?;
-    let owns = is_owner(at.state.entities().facility(&key).owner(), x.number);
-    let next = first_waiting(at.state, &key);
+    let key = key_of(context, notes, entity)?;
+    let owns = is_owner(context.state.entities().facility(&key).owner(), x.number);
+    let next = first_waiting(context.state, &key);
     release_to(id, key, owns, next)
 }
 

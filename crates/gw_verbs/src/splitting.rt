@@ -15,38 +15,38 @@ use gw_values::{Context, LIVE_LIMIT, value_there};
 /// SPLIT: as many copies are made as A says. They go to the block with the label, or on from their own. X11 where A is
 /// below 0, X9 where more than 100,000 transactions would live.
 pub fn decide_split(
-    at: Context,
+    context: Context,
     notes: &mut Notes,
     id: StatementId,
     copies: Option<&Expr>,
     label: Option<&Expr>,
 ) -> Result<Move, Halt>
-    ensures { Decides at.entry.case.version.now at.entry.case.seed
-        (split_prog at.entry.state.now at.entry.asker.now id (option_copied copies.entry) (option_copied label.entry))
-        result notes.old notes.new }
+    ensures { Decides context.entry.case.version.now context.entry.case.seed
+        (split_prog context.entry.state.now context.entry.asker.now id (option_copied copies.entry)
+        (option_copied label.entry)) result notes.old notes.new }
 {
-    let copies = value_there(at, notes, copies)?;
-    split_value(at, notes, id, label, copies)
+    let copies = value_there(context, notes, copies)?;
+    split_value(context, notes, id, label, copies)
 }
 
 fn split_value(
-    at: Context,
+    context: Context,
     notes: &mut Notes,
     id: StatementId,
     label: Option<&Expr>,
     copies: Val,
 ) -> Result<Move, Halt>
-    ensures { Decides at.entry.case.version.now at.entry.case.seed
-        (split_value at.entry.state.now id (option_copied label.entry) copies) result notes.old notes.new }
+    ensures { Decides context.entry.case.version.now context.entry.case.seed
+        (split_value context.entry.state.now id (option_copied label.entry) copies) result notes.old notes.new }
 {
     if copies.is_negative() {
         return Err(Halt::stop(Stop::BadCount));
     }
     let count = copies.magnitude();
-    if is_too_full(at.state, count) {
+    if is_too_full(context.state, count) {
         return Err(Halt::stop(Stop::TooManyTransactions));
     }
-    split_count(at.case, notes, id, label, count)
+    split_count(context.case, notes, id, label, count)
 }
 
 // Whether so many more may not live.

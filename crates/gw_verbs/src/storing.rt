@@ -17,21 +17,21 @@ use gw_values::{Context, units_of};
 /// ENTER: units of a storage come into use, whoever waits, or are waited for where they do not fit. X12 where the
 /// storage has fewer, or its entries would be above 1,000,000,000.
 pub fn decide_enter(
-    at: Context,
+    context: Context,
     notes: &mut Notes,
     id: StatementId,
     storage: Option<&Expr>,
     units: Option<&Expr>,
 ) -> Result<Move, Halt>
-    ensures { Decides at.entry.case.version.now at.entry.case.seed
-        (enter_prog at.entry.state.now at.entry.asker.now id (option_copied storage.entry)
+    ensures { Decides context.entry.case.version.now context.entry.case.seed
+        (enter_prog context.entry.state.now context.entry.asker.now id (option_copied storage.entry)
         (option_copied units.entry)) result notes.old notes.new }
 {
     let Some(expr) = storage else {
         return Err(Halt::stop(Stop::Range));
     };
     match expr.node() {
-        Node::Defined(name) => { enter_defined(at, notes, id, name, units) }
+        Node::Defined(name) => enter_defined(context, notes, id, name, units),
         _ => Err(Halt::stop(Stop::Range)),
     }
 }
@@ -39,79 +39,79 @@ pub fn decide_enter(
 // An ENTER of the storage with this name: it is asked whether the empty storage holds the units, and then whether
 // they fit beside those in use.
 fn enter_defined(
-    at: Context,
+    context: Context,
     notes: &mut Notes,
     id: StatementId,
     name: &StorageName,
     units: Option<&Expr>,
 ) -> Result<Move, Halt>
-    ensures { Decides at.entry.case.version.now at.entry.case.seed
-        (enter_prog at.entry.state.now at.entry.asker.now id (Some (Defined name.now)) (option_copied units.entry))
-        result notes.old notes.new }
+    ensures { Decides context.entry.case.version.now context.entry.case.seed
+        (enter_prog context.entry.state.now context.entry.asker.now id (Some (Defined name.now))
+        (option_copied units.entry)) result notes.old notes.new }
 {
-    let units = units_of(at, notes, units)?;
-    let large = ask_fits(at.case.version, notes, name.name(), u64::from(units))?;
-    let storage = at.state.entities().storage(name.key());
-    enter_storage(at.case, notes, id, name, storage, units, large)
+    let units = units_of(context, notes, units)?;
+    let large = ask_fits(context.case.version, notes, name.name(), u64::from(units))?;
+    let storage = context.state.entities().storage(name.key());
+    enter_storage(context.case, notes, id, name, storage, units, large)
 }
 
 /// LEAVE: units of a storage are given back, and those of its delay chain whose units fit by then are let in, from the
 /// front. X3 where fewer are in use, X12 where the entries would be above 1,000,000,000.
 pub fn decide_leave(
-    at: Context,
+    context: Context,
     notes: &mut Notes,
     id: StatementId,
     storage: Option<&Expr>,
     units: Option<&Expr>,
 ) -> Result<Move, Halt>
-    ensures { Decides at.entry.case.version.now at.entry.case.seed
-        (leave_prog at.entry.state.now at.entry.asker.now id (option_copied storage.entry)
+    ensures { Decides context.entry.case.version.now context.entry.case.seed
+        (leave_prog context.entry.state.now context.entry.asker.now id (option_copied storage.entry)
         (option_copied units.entry)) result notes.old notes.new }
 {
     let Some(expr) = storage else {
         return Err(Halt::stop(Stop::Range));
     };
     match expr.node() {
-        Node::Defined(name) => { leave_defined(at, notes, id, name, units) }
+        Node::Defined(name) => leave_defined(context, notes, id, name, units),
         _ => Err(Halt::stop(Stop::Range)),
     }
 }
 
 // A LEAVE of the storage with this name.
 fn leave_defined(
-    at: Context,
+    context: Context,
     notes: &mut Notes,
     id: StatementId,
     name: &StorageName,
     units: Option<&Expr>,
 ) -> Result<Move, Halt>
-    ensures { Decides at.entry.case.version.now at.entry.case.seed
-        (leave_prog at.entry.state.now at.entry.asker.now id (Some (Defined name.now)) (option_copied units.entry))
-        result notes.old notes.new }
+    ensures { Decides context.entry.case.version.now context.entry.case.seed
+        (leave_prog context.entry.state.now context.entry.asker.now id (Some (Defined name.now))
+        (option_copied units.entry)) result notes.old notes.new }
 {
-    let units = units_of(at, notes, units)?;
-    let storage = at.state.entities().storage(name.key());
-    leave_units(at, notes, id, name, storage, u64::from(units))
+    let units = units_of(context, notes, units)?;
+    let storage = context.state.entities().storage(name.key());
+    leave_units(context, notes, id, name, storage, u64::from(units))
 }
 
 // No more units are given back than are in use.
 fn leave_units(
-    at: Context,
+    context: Context,
     notes: &mut Notes,
     id: StatementId,
     name: &StorageName,
     storage: Storage,
     units: u64,
 ) -> Result<Move, Halt>
-    ensures { Decides at.entry.case.version.now at.entry.case.seed
-        (leave_units at.entry.state.now id name.now storage units) result notes.old notes.new }
+    ensures { Decides context.entry.case.version.now context.entry.case.seed
+        (leave_units context.entry.state.now id name.now storage units) result notes.old notes.new }
 {
     let content = storage.level().content();
     if content < units {
         return Err(Halt::stop(Stop::LeaveTooMany));
     }
-    let chain = at.state.delays().chain(name.key());
-    let shares = shares_of(at.case, notes, name.name(), chain, content - units)?;
+    let chain = context.state.delays().chain(name.key());
+    let shares = shares_of(context.case, notes, name.name(), chain, content - units)?;
     leave_for(id, name.key().clone()?, storage, units, shares)
 }
 

@@ -11,21 +11,21 @@ use gw_values::{Context, key_of};
 
 /// LOGIC: a switch is set, reset or inverted, as the operator says.
 pub fn decide_logic(
-    at: Context,
+    context: Context,
     notes: &mut Notes,
     id: StatementId,
     operator: Auxiliary,
     entity: Option<&Expr>,
 ) -> Result<Move, Halt>
-    ensures { Decides at.entry.case.version.now at.entry.case.seed
-        (logic_prog at.entry.state.now at.entry.asker.now id operator (option_copied entity.entry))
+    ensures { Decides context.entry.case.version.now context.entry.case.seed
+        (logic_prog context.entry.state.now context.entry.asker.now id operator (option_copied entity.entry))
         result notes.old notes.new }
 {
     let Auxiliary::Logic(switching) = operator else {
         return Err(Halt::stop(Stop::NoNextBlock));
     };
-    let key = key_of(at, notes, entity)?;
-    let set = switched(switching, at.state.entities().is_set(&key));
+    let key = key_of(context, notes, entity)?;
+    let set = switched(switching, context.state.entities().is_set(&key));
     Ok(enter_doing(id, key, Deed::Switch { set }))
 }
 

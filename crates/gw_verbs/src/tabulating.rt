@@ -13,13 +13,13 @@ use gw_values::{Context, value_there};
 
 /// TABULATE: the argument of a table is evaluated for the transaction, and its value comes to the table's others.
 pub fn decide_tabulate(
-    at: Context,
+    context: Context,
     notes: &mut Notes,
     id: StatementId,
     table: Option<&Expr>,
 ) -> Result<Move, Halt>
-    ensures { Decides at.entry.case.version.now at.entry.case.seed
-        (tabulate_prog at.entry.state.now at.entry.asker.now id (option_copied table.entry))
+    ensures { Decides context.entry.case.version.now context.entry.case.seed
+        (tabulate_prog context.entry.state.now context.entry.asker.now id (option_copied table.entry))
         result notes.old notes.new }
 {
     let Some(expr) = table else {
@@ -27,25 +27,25 @@ pub fn decide_tabulate(
     };
     match expr.node() {
         Node::Table(name) => {
-            let argument = ask_argument(at.case.version, notes, name)?;
-            tabulate_with(at, notes, id, name, argument)
+            let argument = ask_argument(context.case.version, notes, name)?;
+            tabulate_with(context, notes, id, name, argument)
         }
         _ => Err(Halt::stop(Stop::Range)),
     }
 }
 
 fn tabulate_with(
-    at: Context,
+    context: Context,
     notes: &mut Notes,
     id: StatementId,
     name: &Name,
     argument: Option<&Expr>,
 ) -> Result<Move, Halt>
-    ensures { Decides at.entry.case.version.now at.entry.case.seed
-        (tabulate_with at.entry.state.now at.entry.asker.now id (keys.Defined name.now) (option_copied argument.entry))
-        result notes.old notes.new }
+    ensures { Decides context.entry.case.version.now context.entry.case.seed
+        (tabulate_with context.entry.state.now context.entry.asker.now id (keys.Defined name.now)
+        (option_copied argument.entry)) result notes.old notes.new }
 {
-    let value = value_there(at, notes, argument)?;
+    let value = value_there(context, notes, argument)?;
     let key = Key::Defined(name.clone()?);
     Ok(enter_doing(id, key, Deed::Table { value }))
 }

@@ -18,9 +18,9 @@ use Rattle.gw_values.proofs.arriving.arrival.Goals.{in-Some+in_ok-limit+else-is_
 
 pub returns : goal.returns
 returns c =
-    let t = c.args.at.case.version.now in
-    let seed = c.args.at.case.seed in
-    let s = c.args.at.state.now in
+    let t = c.args.context.case.version.now in
+    let seed = c.args.context.case.seed in
+    let s = c.args.context.state.now in
     elim c.match-limit.branch [
       | in-Some+in_ok-limit+else-is_negative+else-magnitude-count w ↦
           let made = (count_at s.counts c.args.id).made in
@@ -29,12 +29,12 @@ returns c =
           let priority = option_copied c.args.priority in
           let n = w.in_ok-limit.limit in
           let limit = w.in-Some.limit.now in
-          let rest : ℤ → Eval (Option Arrival) = λ n. arrival_within s c.args.at.asker.now c.args.id made mean range priority n in
-          let whole : arrival_prog s c.args.at.asker.now c.args.id made mean range (option_copied c.args.limit) priority ≡
-          (value_prog s c.args.at.asker.now limit ~> rest) = search rules in
-          let here : rest n ≡ arrival_in_time s c.args.at.asker.now c.args.id mean range priority = search rules in
+          let rest : ℤ → Eval (Option Arrival) = λ n. arrival_within s c.args.context.asker.now c.args.id made mean range priority n in
+          let whole : arrival_prog s c.args.context.asker.now c.args.id made mean range (option_copied c.args.limit) priority ≡
+          (value_prog s c.args.context.asker.now limit ~> rest) = search rules in
+          let here : rest n ≡ arrival_in_time s c.args.context.asker.now c.args.id mean range priority = search rules in
           let behind = rw (w.notes-is, ← here) at c.arrival_in_time.ensures in
-          decides_whole t seed (value_prog s c.args.at.asker.now limit) rest _ n c.arrival_in_time.result c.args.notes.now w.value.new.notes
+          decides_whole t seed (value_prog s c.args.context.asker.now limit) rest _ n c.arrival_in_time.result c.args.notes.now w.value.new.notes
           c.arrival_in_time.new.notes whole
           w.in_ok-limit.ensures behind
       | in_default w ↦ search rules
@@ -43,32 +43,32 @@ returns c =
 pub returns-in_err-limit : goal.returns-in_err-limit
 returns-in_err-limit c =
     let p = err_from_is_err_and c.from_residual.result c.from_residual.ensures.1 in
-    let t = c.args.at.case.version.now in
-    let seed = c.args.at.case.seed in
-    let s = c.args.at.state.now in
+    let t = c.args.context.case.version.now in
+    let seed = c.args.context.case.seed in
+    let s = c.args.context.state.now in
     let made = (count_at s.counts c.args.id).made in
     let mean = option_copied c.args.mean in
     let range = option_copied c.args.range in
     let priority = option_copied c.args.priority in
     let limit = c.in-Some.limit.now in
-    let first = value_prog s c.args.at.asker.now limit in
-    let rest : ℤ → Eval (Option Arrival) = λ n. arrival_within s c.args.at.asker.now c.args.id made mean range priority n in
-    let whole : arrival_prog s c.args.at.asker.now c.args.id made mean range (option_copied c.args.limit) priority ≡ (first ~> rest) = search rules in
+    let first = value_prog s c.args.context.asker.now limit in
+    let rest : ℤ → Eval (Option Arrival) = λ n. arrival_within s c.args.context.asker.now c.args.id made mean range priority n in
+    let whole : arrival_prog s c.args.context.asker.now c.args.id made mean range (option_copied c.args.limit) priority ≡ (first ~> rest) = search rules in
     decides_exit t seed first rest _ _ _ c.in_err-limit.field-0.0 _ _ whole p.1 p.2 c.in_err-limit.ensures
 
 pub returns-then-is_negative : goal.returns-then-is_negative
 returns-then-is_negative c =
-    let t = c.args.at.case.version.now in
-    let seed = c.args.at.case.seed in
-    let s = c.args.at.state.now in
+    let t = c.args.context.case.version.now in
+    let seed = c.args.context.case.seed in
+    let s = c.args.context.state.now in
     let made = (count_at s.counts c.args.id).made in
     let mean = option_copied c.args.mean in
     let range = option_copied c.args.range in
     let priority = option_copied c.args.priority in
     let limit = c.in-Some.limit.now in
-    let first = value_prog s c.args.at.asker.now limit in
-    let rest : ℤ → Eval (Option Arrival) = λ n. arrival_within s c.args.at.asker.now c.args.id made mean range priority n in
-    let whole : arrival_prog s c.args.at.asker.now c.args.id made mean range (option_copied c.args.limit) priority ≡ (first ~> rest) = search rules in
+    let first = value_prog s c.args.context.asker.now limit in
+    let rest : ℤ → Eval (Option Arrival) = λ n. arrival_within s c.args.context.asker.now c.args.id made mean range priority n in
+    let whole : arrival_prog s c.args.context.asker.now c.args.id made mean range (option_copied c.args.limit) priority ≡ (first ~> rest) = search rules in
     let n = c.in_ok-limit.limit in
     let below : is_negative n ≡ true = search rules in
     let here : rest n ≡ ends_with (ends.Error BadCount) = rw below refl in
@@ -78,17 +78,17 @@ returns-then-is_negative c =
 
 pub returns-then-magnitude-count : goal.returns-then-magnitude-count
 returns-then-magnitude-count c =
-    let t = c.args.at.case.version.now in
-    let seed = c.args.at.case.seed in
-    let s = c.args.at.state.now in
+    let t = c.args.context.case.version.now in
+    let seed = c.args.context.case.seed in
+    let s = c.args.context.state.now in
     let made = (count_at s.counts c.args.id).made in
     let mean = option_copied c.args.mean in
     let range = option_copied c.args.range in
     let priority = option_copied c.args.priority in
     let limit = c.in-Some.limit.now in
-    let first = value_prog s c.args.at.asker.now limit in
-    let rest : ℤ → Eval (Option Arrival) = λ n. arrival_within s c.args.at.asker.now c.args.id made mean range priority n in
-    let whole : arrival_prog s c.args.at.asker.now c.args.id made mean range (option_copied c.args.limit) priority ≡ (first ~> rest) = search rules in
+    let first = value_prog s c.args.context.asker.now limit in
+    let rest : ℤ → Eval (Option Arrival) = λ n. arrival_within s c.args.context.asker.now c.args.id made mean range priority n in
+    let whole : arrival_prog s c.args.context.asker.now c.args.id made mean range (option_copied c.args.limit) priority ≡ (first ~> rest) = search rules in
     let n = c.in_ok-limit.limit in
     let none : Option Arrival = None in
     let here : rest n ≡ gives none = search rules in

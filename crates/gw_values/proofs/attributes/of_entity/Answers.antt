@@ -6,9 +6,9 @@ use Rattle.gw_values.proofs.attributes.of_entity.Goals as goal
 
 pub returns : goal.returns
 returns c =
-    let t = c.args.at.case.version.now in
-    let seed = c.args.at.case.seed in
+    let t = c.args.context.case.version.now in
+    let seed = c.args.context.case.seed in
     let first = subject_prog c.args.of.now in
-    let rest : Key → Eval ℤ = λ key. entity_value c.args.at.state.now c.args.class key in
+    let rest : Key → Eval ℤ = λ key. entity_value c.args.context.state.now c.args.class key in
     decides_then t seed first rest c.in_ok-key.key _ _ _ _ c.in_ok-key.ensures
     (decides_comes t seed (rest c.in_ok-key.key) c.entity_value.result _ c.entity_value.ensures)

@@ -12,10 +12,10 @@ use Rattle.gw_values.proofs.operand.computed_traced.Goals as goal
 
 pub returns-in_err-number : goal.returns-in_err-number
 returns-in_err-number c =
-    let t = c.args.at.case.version.now in
-    let seed = c.args.at.case.seed in
-    let s = c.args.at.state.now in
-    let q = c.args.at.asker.now in
+    let t = c.args.context.case.version.now in
+    let seed = c.args.context.case.seed in
+    let s = c.args.context.state.now in
+    let q = c.args.context.asker.now in
     let first = traced s q c.args.read.now.items (value_of c.args.operand.now) in
     let rest : ℤ × List Watched → Eval (Key × List Watched) = λ r. numbered r.0 ~> (λ key. gives (key, r.1)) in
     let p = err_from_is_err_and c.from_residual.result c.from_residual.ensures.1 in
@@ -23,10 +23,10 @@ returns-in_err-number c =
 
 pub returns : goal.returns
 returns c =
-    let t = c.args.at.case.version.now in
-    let seed = c.args.at.case.seed in
-    let s = c.args.at.state.now in
-    let q = c.args.at.asker.now in
+    let t = c.args.context.case.version.now in
+    let seed = c.args.context.case.seed in
+    let s = c.args.context.state.now in
+    let q = c.args.context.asker.now in
     let first = traced s q c.args.read.now.items (value_of c.args.operand.now) in
     let rest : ℤ × List Watched → Eval (Key × List Watched) = λ r. numbered r.0 ~> (λ key. gives (key, r.1)) in
     let n = c.in_ok-number.number in

@@ -11,22 +11,22 @@ use Rattle.gw_values.proofs.operand.units_of.Goals as goal
 pub returns-in_err-units : goal.returns-in_err-units
 returns-in_err-units c =
     let p = err_from_is_err_and c.from_residual.result c.from_residual.ensures.1 in
-    let t = c.args.at.case.version.now in
-    let seed = c.args.at.case.seed in
-    let s = c.args.at.state.now in
-    let first = value_prog s c.args.at.asker.now c.in-Some.expr.now in
+    let t = c.args.context.case.version.now in
+    let seed = c.args.context.case.seed in
+    let s = c.args.context.state.now in
+    let first = value_prog s c.args.context.asker.now c.in-Some.expr.now in
     let rest : ℤ → Eval ℕ = λ n. stops_if (is_below n (pos 1)) BadCount (gives (magnitude n)) in
-    let whole : units_prog s c.args.at.asker.now (option_copied c.args.operand) ≡ (first ~> rest) = search rules in
+    let whole : units_prog s c.args.context.asker.now (option_copied c.args.operand) ≡ (first ~> rest) = search rules in
     decides_exit t seed first rest _ _ _ c.in_err-units.field-0.0 _ _ whole p.1 p.2 c.in_err-units.ensures
 
 pub returns-then-get-lt1 : goal.returns-then-get-lt1
 returns-then-get-lt1 c =
-    let t = c.args.at.case.version.now in
-    let seed = c.args.at.case.seed in
-    let s = c.args.at.state.now in
-    let first = value_prog s c.args.at.asker.now c.in-Some.expr.now in
+    let t = c.args.context.case.version.now in
+    let seed = c.args.context.case.seed in
+    let s = c.args.context.state.now in
+    let first = value_prog s c.args.context.asker.now c.in-Some.expr.now in
     let rest : ℤ → Eval ℕ = λ n. stops_if (is_below n (pos 1)) BadCount (gives (magnitude n)) in
-    let whole : units_prog s c.args.at.asker.now (option_copied c.args.operand) ≡ (first ~> rest) = search rules in
+    let whole : units_prog s c.args.context.asker.now (option_copied c.args.operand) ≡ (first ~> rest) = search rules in
     let n = c.in_ok-units.units in
     let below : is_below n (pos 1) ≡ true = search rules in
     let here : rest n ≡ ends_with (ends.Error BadCount) = rw below refl in
@@ -36,12 +36,12 @@ returns-then-get-lt1 c =
 
 pub returns : goal.returns
 returns c =
-    let t = c.args.at.case.version.now in
-    let seed = c.args.at.case.seed in
-    let s = c.args.at.state.now in
-    let first = value_prog s c.args.at.asker.now c.in-Some.expr.now in
+    let t = c.args.context.case.version.now in
+    let seed = c.args.context.case.seed in
+    let s = c.args.context.state.now in
+    let first = value_prog s c.args.context.asker.now c.in-Some.expr.now in
     let rest : ℤ → Eval ℕ = λ n. stops_if (is_below n (pos 1)) BadCount (gives (magnitude n)) in
-    let whole : units_prog s c.args.at.asker.now (option_copied c.args.operand) ≡ (first ~> rest) = search rules in
+    let whole : units_prog s c.args.context.asker.now (option_copied c.args.operand) ≡ (first ~> rest) = search rules in
     let n = c.in_ok-units.units in
     let below : is_below n (pos 1) ≡ false = search rules in
     let size : c.magnitude.result ≡ magnitude n = c.magnitude.ensures.value in

@@ -10,10 +10,10 @@ use Rattle.gw_values.proofs.times.time_by_function.Goals as goal
 pub returns-in_err-mean : goal.returns-in_err-mean
 returns-in_err-mean c =
     let p = err_from_is_err_and c.from_residual.result c.from_residual.ensures.1 in
-    let t = c.args.at.case.version.now in
-    let seed = c.args.at.case.seed in
-    let s = c.args.at.state.now in
-    let q = c.args.at.asker.now in
+    let t = c.args.context.case.version.now in
+    let seed = c.args.context.case.seed in
+    let s = c.args.context.state.now in
+    let q = c.args.context.asker.now in
     let by = evaluated s q (function_of c.args.of.now) in
     let rest : ℤ → Eval ℤ = λ m. by ~> (λ y. in_range (times m y)) in
     decides_exit t seed (value_or_zero s q (option_copied c.args.mean)) rest _ _ _ c.in_err-mean.field-0.0 _ _ refl p.1 p.2 c.in_err-mean.ensures
@@ -21,10 +21,10 @@ returns-in_err-mean c =
 pub returns-in_err-by : goal.returns-in_err-by
 returns-in_err-by c =
     let p = err_from_is_err_and c.from_residual-in_err-by.result c.from_residual-in_err-by.ensures.1 in
-    let t = c.args.at.case.version.now in
-    let seed = c.args.at.case.seed in
-    let s = c.args.at.state.now in
-    let q = c.args.at.asker.now in
+    let t = c.args.context.case.version.now in
+    let seed = c.args.context.case.seed in
+    let s = c.args.context.state.now in
+    let q = c.args.context.asker.now in
     let by = evaluated s q (function_of c.args.of.now) in
     let rest : ℤ → Eval ℤ = λ m. by ~> (λ y. in_range (times m y)) in
     let there = seen_decides c.in_err-by.ensures (search rules) in
@@ -33,10 +33,10 @@ returns-in_err-by c =
 
 pub returns : goal.returns
 returns c =
-    let t = c.args.at.case.version.now in
-    let seed = c.args.at.case.seed in
-    let s = c.args.at.state.now in
-    let q = c.args.at.asker.now in
+    let t = c.args.context.case.version.now in
+    let seed = c.args.context.case.seed in
+    let s = c.args.context.state.now in
+    let q = c.args.context.asker.now in
     let by = evaluated s q (function_of c.args.of.now) in
     let rest : ℤ → Eval ℤ = λ m. by ~> (λ y. in_range (times m y)) in
     let there = seen_decides c.in_ok-by.ensures (search rules) in

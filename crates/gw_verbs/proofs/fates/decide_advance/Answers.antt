@@ -15,19 +15,19 @@ use Rattle.gw_verbs.proofs.fates.decide_advance.Goals as goal
 
 pub returns-in_err-time : goal.returns-in_err-time
 returns-in_err-time c =
-    let t = c.args.at.case.version.now in
-    let seed = c.args.at.case.seed in
-    let s = c.args.at.state.now in
-    let q = c.args.at.asker.now in
+    let t = c.args.context.case.version.now in
+    let seed = c.args.context.case.seed in
+    let s = c.args.context.state.now in
+    let q = c.args.context.asker.now in
     let rest : ℤ → Eval Move = λ v. stops_if (is_negative v) NegativeTime (gives (moves.Enter c.args.id changes.Nothing (delay_of s (magnitude v)))) in
     decides_left t seed (time_prog s q (option_copied c.args.mean) (option_copied c.args.range)) rest _ c.in_err-time.field-0.0 _ _ c.from_residual.ensures.1 c.in_err-time.ensures
 
 pub returns : goal.returns
 returns c =
-    let t = c.args.at.case.version.now in
-    let seed = c.args.at.case.seed in
-    let s = c.args.at.state.now in
-    let q = c.args.at.asker.now in
+    let t = c.args.context.case.version.now in
+    let seed = c.args.context.case.seed in
+    let s = c.args.context.state.now in
+    let q = c.args.context.asker.now in
     let rest : ℤ → Eval Move = λ v. stops_if (is_negative v) NegativeTime (gives (moves.Enter c.args.id changes.Nothing (delay_of s (magnitude v)))) in
     let key = c.in_ok-time.time in
     let here : Comes (rest key) (Ok c.enter_for.result) = search rules in
@@ -35,10 +35,10 @@ returns c =
 
 pub returns-then-is_negative : goal.returns-then-is_negative
 returns-then-is_negative c =
-    let t = c.args.at.case.version.now in
-    let seed = c.args.at.case.seed in
-    let s = c.args.at.state.now in
-    let q = c.args.at.asker.now in
+    let t = c.args.context.case.version.now in
+    let seed = c.args.context.case.seed in
+    let s = c.args.context.state.now in
+    let q = c.args.context.asker.now in
     let rest : ℤ → Eval Move = λ v. stops_if (is_negative v) NegativeTime (gives (moves.Enter c.args.id changes.Nothing (delay_of s (magnitude v)))) in
     let key = c.in_ok-time.time in
     let below : is_negative key ≡ true = search rules in

@@ -11,9 +11,9 @@ returns-in-Some c = rw c.in-Some.is (c.gate_or_lead.ensures [])
 
 pub returns-in_ok-clone-in-None : goal.returns-in_ok-clone-in-None
 returns-in_ok-clone-in-None c =
-    let t = c.args.at.case.version.now in
-    let seed = c.args.at.case.seed in
-    let s = c.args.at.state.now in
+    let t = c.args.context.case.version.now in
+    let seed = c.args.context.case.seed in
+    let s = c.args.context.state.now in
     let none : c.new-read.result.items ≡ [] = search rules in
     let own : c.in_ok-clone-in-None.field-0 ≡ c.args.key.now = search rules in
     let here = subst (λ (k : Key). Comes (gate_at s c.args.id c.args.condition None k c.new-read.result.items c.args.capacity) c.gate_or_wait.result) own

@@ -10,9 +10,9 @@ use Rattle.gw_verbs.proofs.gates.gate_storage.Goals as goal
 
 pub returns : goal.returns
 returns c =
-    let t = c.args.at.case.version.now in
-    let seed = c.args.at.case.seed in
-    let s = c.args.at.state.now in
+    let t = c.args.context.case.version.now in
+    let seed = c.args.context.case.seed in
+    let s = c.args.context.state.now in
     let name = c.args.name.now in
     let rest : ℕ → Eval Move = λ n. gate_at s c.args.id c.args.condition (option_copied c.args.label) (keys.Defined name) [] n in
     let reads : reads_capacity c.args.condition ≡ true = search rules in

@@ -13,9 +13,9 @@ use Rattle.gw_verbs.proofs.generating.decide_generate.Goals as goal
 
 pub returns-in_err-next : goal.returns-in_err-next
 returns-in_err-next c =
-    let t = c.args.at.case.version.now in
-    let seed = c.args.at.case.seed in
-    let s = c.args.at.state.now in
+    let t = c.args.context.case.version.now in
+    let seed = c.args.context.case.seed in
+    let s = c.args.context.state.now in
     let asked = arrival_prog s c.for_none.result c.args.id (count_at s.counts c.args.id).made (option_copied c.args.mean)
     (option_copied c.args.range) (option_copied c.args.limit) (option_copied c.args.priority) in
     let rest : Option Arrival → Eval Move = λ next. gives (moves.Enter c.args.id (changes.Generate next) fates.Active) in
@@ -27,9 +27,9 @@ returns-in_err-next c =
 
 pub returns : goal.returns
 returns c =
-    let t = c.args.at.case.version.now in
-    let seed = c.args.at.case.seed in
-    let s = c.args.at.state.now in
+    let t = c.args.context.case.version.now in
+    let seed = c.args.context.case.seed in
+    let s = c.args.context.state.now in
     let asked = arrival_prog s c.for_none.result c.args.id (count_at s.counts c.args.id).made (option_copied c.args.mean)
     (option_copied c.args.range) (option_copied c.args.limit) (option_copied c.args.priority) in
     let rest : Option Arrival → Eval Move = λ next. gives (moves.Enter c.args.id (changes.Generate next) fates.Active) in

@@ -8,10 +8,10 @@ use Rattle.gw_verbs.proofs.leading.test_or_lead.Goals as goal
 
 pub returns-in_err-first : goal.returns-in_err-first
 returns-in_err-first c =
-    let t = c.args.at.case.version.now in
-    let seed = c.args.at.case.seed in
-    let s = c.args.at.state.now in
-    let q = c.args.at.asker.now in
+    let t = c.args.context.case.version.now in
+    let seed = c.args.context.case.seed in
+    let s = c.args.context.state.now in
+    let q = c.args.context.asker.now in
     let last : ℤ → ℤ → Eval Move = λ a b. test_values c.args.id c.args.relation (Some c.args.label.now) [] a b in
     let second = value_there s q (option_copied c.args.second) in
     let rest : ℤ → Eval Move = λ a. second ~> last a in
@@ -20,10 +20,10 @@ returns-in_err-first c =
 
 pub returns-in_err-second : goal.returns-in_err-second
 returns-in_err-second c =
-    let t = c.args.at.case.version.now in
-    let seed = c.args.at.case.seed in
-    let s = c.args.at.state.now in
-    let q = c.args.at.asker.now in
+    let t = c.args.context.case.version.now in
+    let seed = c.args.context.case.seed in
+    let s = c.args.context.state.now in
+    let q = c.args.context.asker.now in
     let last : ℤ → ℤ → Eval Move = λ a b. test_values c.args.id c.args.relation (Some c.args.label.now) [] a b in
     let second = value_there s q (option_copied c.args.second) in
     let rest : ℤ → Eval Move = λ a. second ~> last a in
@@ -34,10 +34,10 @@ returns-in_err-second c =
 
 pub returns-then-holds : goal.returns-then-holds
 returns-then-holds c =
-    let t = c.args.at.case.version.now in
-    let seed = c.args.at.case.seed in
-    let s = c.args.at.state.now in
-    let q = c.args.at.asker.now in
+    let t = c.args.context.case.version.now in
+    let seed = c.args.context.case.seed in
+    let s = c.args.context.state.now in
+    let q = c.args.context.asker.now in
     let last : ℤ → ℤ → Eval Move = λ a b. test_values c.args.id c.args.relation (Some c.args.label.now) [] a b in
     let second = value_there s q (option_copied c.args.second) in
     let rest : ℤ → Eval Move = λ a. second ~> last a in
@@ -52,10 +52,10 @@ returns-then-holds c =
 
 pub returns : goal.returns
 returns c =
-    let t = c.args.at.case.version.now in
-    let seed = c.args.at.case.seed in
-    let s = c.args.at.state.now in
-    let q = c.args.at.asker.now in
+    let t = c.args.context.case.version.now in
+    let seed = c.args.context.case.seed in
+    let s = c.args.context.state.now in
+    let q = c.args.context.asker.now in
     let last : ℤ → ℤ → Eval Move = λ a b. test_values c.args.id c.args.relation (Some c.args.label.now) [] a b in
     let second = value_there s q (option_copied c.args.second) in
     let rest : ℤ → Eval Move = λ a. second ~> last a in

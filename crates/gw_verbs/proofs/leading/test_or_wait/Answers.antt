@@ -9,10 +9,10 @@ use Rattle.gw_verbs.proofs.leading.test_or_wait.Goals as goal
 
 pub returns-in_err-first : goal.returns-in_err-first
 returns-in_err-first c =
-    let t = c.args.at.case.version.now in
-    let seed = c.args.at.case.seed in
-    let s = c.args.at.state.now in
-    let q = c.args.at.asker.now in
+    let t = c.args.context.case.version.now in
+    let seed = c.args.context.case.seed in
+    let s = c.args.context.state.now in
+    let q = c.args.context.asker.now in
     let last : ℤ × List Watched → ℤ × List Watched → Eval Move = λ a b. test_values c.args.id c.args.relation None b.1 a.0 b.0 in
     let rest : ℤ × List Watched → Eval Move = λ a. value_traced s q a.1 (option_copied c.args.second) ~> last a in
     let none : c.new-read.result.items ≡ [] = search rules in
@@ -21,10 +21,10 @@ returns-in_err-first c =
 
 pub returns-in_err-second : goal.returns-in_err-second
 returns-in_err-second c =
-    let t = c.args.at.case.version.now in
-    let seed = c.args.at.case.seed in
-    let s = c.args.at.state.now in
-    let q = c.args.at.asker.now in
+    let t = c.args.context.case.version.now in
+    let seed = c.args.context.case.seed in
+    let s = c.args.context.state.now in
+    let q = c.args.context.asker.now in
     let last : ℤ × List Watched → ℤ × List Watched → Eval Move = λ a b. test_values c.args.id c.args.relation None b.1 a.0 b.0 in
     let rest : ℤ × List Watched → Eval Move = λ a. value_traced s q a.1 (option_copied c.args.second) ~> last a in
     let none : c.new-read.result.items ≡ [] = search rules in
@@ -35,10 +35,10 @@ returns-in_err-second c =
 
 pub returns : goal.returns
 returns c =
-    let t = c.args.at.case.version.now in
-    let seed = c.args.at.case.seed in
-    let s = c.args.at.state.now in
-    let q = c.args.at.asker.now in
+    let t = c.args.context.case.version.now in
+    let seed = c.args.context.case.seed in
+    let s = c.args.context.state.now in
+    let q = c.args.context.asker.now in
     let last : ℤ × List Watched → ℤ × List Watched → Eval Move = λ a b. test_values c.args.id c.args.relation None b.1 a.0 b.0 in
     let rest : ℤ × List Watched → Eval Move = λ a. value_traced s q a.1 (option_copied c.args.second) ~> last a in
     let none : c.new-read.result.items ≡ [] = search rules in

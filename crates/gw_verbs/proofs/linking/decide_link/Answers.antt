@@ -12,10 +12,10 @@ use Rattle.gw_verbs.proofs.linking.decide_link.Goals as goal
 
 pub returns-in_err-key-in-Order : goal.returns-in_err-key-in-Order
 returns-in_err-key-in-Order c =
-    let t = c.args.at.case.version.now in
-    let seed = c.args.at.case.seed in
-    let s = c.args.at.state.now in
-    let q = c.args.at.asker.now in
+    let t = c.args.context.case.version.now in
+    let seed = c.args.context.case.seed in
+    let s = c.args.context.state.now in
+    let q = c.args.context.asker.now in
     let entity = option_copied c.args.entity in
     let rest : Key → Eval Move = λ key. gives (moves.Enter c.args.id changes.Nothing (fates.Linked key c.in-Order.discipline)) in
     let order : option_copied c.args.order ≡ Some (Order c.in-Order.discipline) = search rules in
@@ -23,10 +23,10 @@ returns-in_err-key-in-Order c =
 
 pub returns-in_ok-key-in-Order : goal.returns-in_ok-key-in-Order
 returns-in_ok-key-in-Order c =
-    let t = c.args.at.case.version.now in
-    let seed = c.args.at.case.seed in
-    let s = c.args.at.state.now in
-    let q = c.args.at.asker.now in
+    let t = c.args.context.case.version.now in
+    let seed = c.args.context.case.seed in
+    let s = c.args.context.state.now in
+    let q = c.args.context.asker.now in
     let entity = option_copied c.args.entity in
     let key = c.in_ok-key-in-Order.key in
     let rest : Key → Eval Move = λ key. gives (moves.Enter c.args.id changes.Nothing (fates.Linked key c.in-Order.discipline)) in

@@ -10,20 +10,20 @@ use Rattle.gw_verbs.proofs.linking.decide_unlink.Goals as goal
 
 pub returns-in_err-key : goal.returns-in_err-key
 returns-in_err-key c =
-    let t = c.args.at.case.version.now in
-    let seed = c.args.at.case.seed in
-    let s = c.args.at.state.now in
-    let q = c.args.at.asker.now in
+    let t = c.args.context.case.version.now in
+    let seed = c.args.context.case.seed in
+    let s = c.args.context.state.now in
+    let q = c.args.context.asker.now in
     let last : Key → ℕ → Eval Move = λ key n. unlink_count c.args.id key (option_copied c.args.label) n in
     let rest : Key → Eval Move = λ key. leaving_prog s q (option_copied c.args.count) (length (user_chain_at s.linked key).members) ~> last key in
     decides_left t seed (entity_prog s q (option_copied c.args.entity)) rest _ c.in_err-key.field-0.0 _ _ c.from_residual.ensures.1 c.in_err-key.ensures
 
 pub returns-in_err-count : goal.returns-in_err-count
 returns-in_err-count c =
-    let t = c.args.at.case.version.now in
-    let seed = c.args.at.case.seed in
-    let s = c.args.at.state.now in
-    let q = c.args.at.asker.now in
+    let t = c.args.context.case.version.now in
+    let seed = c.args.context.case.seed in
+    let s = c.args.context.state.now in
+    let q = c.args.context.asker.now in
     let last : Key → ℕ → Eval Move = λ key n. unlink_count c.args.id key (option_copied c.args.label) n in
     let rest : Key → Eval Move = λ key. leaving_prog s q (option_copied c.args.count) (length (user_chain_at s.linked key).members) ~> last key in
     let key = c.in_ok-key.key in
@@ -35,10 +35,10 @@ returns-in_err-count c =
 
 pub returns : goal.returns
 returns c =
-    let t = c.args.at.case.version.now in
-    let seed = c.args.at.case.seed in
-    let s = c.args.at.state.now in
-    let q = c.args.at.asker.now in
+    let t = c.args.context.case.version.now in
+    let seed = c.args.context.case.seed in
+    let s = c.args.context.state.now in
+    let q = c.args.context.asker.now in
     let last : Key → ℕ → Eval Move = λ key n. unlink_count c.args.id key (option_copied c.args.label) n in
     let rest : Key → Eval Move = λ key. leaving_prog s q (option_copied c.args.count) (length (user_chain_at s.linked key).members) ~> last key in
     let key = c.in_ok-key.key in

@@ -6,18 +6,18 @@ use Rattle.gw_verbs.proofs.linking.leaving.Goals as goal
 
 pub returns-in_err-units : goal.returns-in_err-units
 returns-in_err-units c =
-    let t = c.args.at.case.version.now in
-    let seed = c.args.at.case.seed in
-    let units = units_prog c.args.at.state.now c.args.at.asker.now (Some c.in-Some.expr.now) in
+    let t = c.args.context.case.version.now in
+    let seed = c.args.context.case.seed in
+    let units = units_prog c.args.context.state.now c.args.context.asker.now (Some c.in-Some.expr.now) in
     let rest : ℕ → Eval ℕ = λ n. gives (min n c.args.there) in
     let count : option_copied c.args.count ≡ Some c.in-Some.expr.now = search rules in
     rw count (decides_left t seed units rest _ c.in_err-units.field-0.0 _ _ c.from_residual.ensures.1 c.in_err-units.ensures)
 
 pub returns : goal.returns
 returns c =
-    let t = c.args.at.case.version.now in
-    let seed = c.args.at.case.seed in
-    let units = units_prog c.args.at.state.now c.args.at.asker.now (Some c.in-Some.expr.now) in
+    let t = c.args.context.case.version.now in
+    let seed = c.args.context.case.seed in
+    let units = units_prog c.args.context.state.now c.args.context.asker.now (Some c.in-Some.expr.now) in
     let rest : ℕ → Eval ℕ = λ n. gives (min n c.args.there) in
     let count : option_copied c.args.count ≡ Some c.in-Some.expr.now = search rules in
     let n = c.in_ok-units.units in

@@ -11,20 +11,20 @@ use Rattle.gw_verbs.proofs.parameters.decide_loop.Goals as goal
 
 pub returns-in_err-key : goal.returns-in_err-key
 returns-in_err-key c =
-    let t = c.args.at.case.version.now in
-    let seed = c.args.at.case.seed in
-    let s = c.args.at.state.now in
-    let q = c.args.at.asker.now in
+    let t = c.args.context.case.version.now in
+    let seed = c.args.context.case.seed in
+    let s = c.args.context.state.now in
+    let q = c.args.context.asker.now in
     let rest : Key → Eval Move = λ key.
     left_of (parameter_at s.parameters q.number key) ~> (λ left. loop_with c.args.id key left (option_copied c.args.label)) in
     decides_left t seed (entity_prog s q (option_copied c.args.parameter)) rest _ c.in_err-key.field-0.0 _ _ c.from_residual.ensures.1 c.in_err-key.ensures
 
 pub returns-in_err-left : goal.returns-in_err-left
 returns-in_err-left c =
-    let t = c.args.at.case.version.now in
-    let seed = c.args.at.case.seed in
-    let s = c.args.at.state.now in
-    let q = c.args.at.asker.now in
+    let t = c.args.context.case.version.now in
+    let seed = c.args.context.case.seed in
+    let s = c.args.context.state.now in
+    let q = c.args.context.asker.now in
     let rest : Key → Eval Move = λ key.
     left_of (parameter_at s.parameters q.number key) ~> (λ left. loop_with c.args.id key left (option_copied c.args.label)) in
     let key = c.in_ok-key.key in
@@ -39,10 +39,10 @@ returns-in_err-left c =
 
 pub returns : goal.returns
 returns c =
-    let t = c.args.at.case.version.now in
-    let seed = c.args.at.case.seed in
-    let s = c.args.at.state.now in
-    let q = c.args.at.asker.now in
+    let t = c.args.context.case.version.now in
+    let seed = c.args.context.case.seed in
+    let s = c.args.context.state.now in
+    let q = c.args.context.asker.now in
     let rest : Key → Eval Move = λ key.
     left_of (parameter_at s.parameters q.number key) ~> (λ left. loop_with c.args.id key left (option_copied c.args.label)) in
     let key = c.in_ok-key.key in

@@ -12,19 +12,19 @@ use Rattle.gw_verbs.proofs.priorities.decide_priority.Goals as goal
 
 pub returns-in_err-to : goal.returns-in_err-to
 returns-in_err-to c =
-    let t = c.args.at.case.version.now in
-    let seed = c.args.at.case.seed in
-    let s = c.args.at.state.now in
-    let q = c.args.at.asker.now in
+    let t = c.args.context.case.version.now in
+    let seed = c.args.context.case.seed in
+    let s = c.args.context.state.now in
+    let q = c.args.context.asker.now in
     let rest : ℤ → Eval Move = λ p. gives (moves.Enter c.args.id (changes.Transaction (own.Priority p)) fates.Active) in
     decides_left t seed (value_there s q (option_copied c.args.priority)) rest _ c.in_err-to.field-0.0 _ _ c.from_residual.ensures.1 c.in_err-to.ensures
 
 pub returns : goal.returns
 returns c =
-    let t = c.args.at.case.version.now in
-    let seed = c.args.at.case.seed in
-    let s = c.args.at.state.now in
-    let q = c.args.at.asker.now in
+    let t = c.args.context.case.version.now in
+    let seed = c.args.context.case.seed in
+    let s = c.args.context.state.now in
+    let q = c.args.context.asker.now in
     let rest : ℤ → Eval Move = λ p. gives (moves.Enter c.args.id (changes.Transaction (own.Priority p)) fates.Active) in
     let key = c.in_ok-to.to in
     let here : Comes (rest key) (Ok c.enter_with.result) = rw c.enter_with.ensures refl in

@@ -11,19 +11,19 @@ use Rattle.gw_verbs.proofs.seizing.decide_release.Goals as goal
 
 pub returns-in_err-key : goal.returns-in_err-key
 returns-in_err-key c =
-    let t = c.args.at.case.version.now in
-    let seed = c.args.at.case.seed in
-    let s = c.args.at.state.now in
-    let q = c.args.at.asker.now in
+    let t = c.args.context.case.version.now in
+    let seed = c.args.context.case.seed in
+    let s = c.args.context.state.now in
+    let q = c.args.context.asker.now in
     let rest : Key → Eval Move = λ key. release_to c.args.id key (is_owner (facility_at s.entities key).owner c.args.x.now.number) (first_number (delay_at s.delays key)) in
     decides_left t seed (entity_prog s q (option_copied c.args.entity)) rest _ c.in_err-key.field-0.0 _ _ c.from_residual.ensures.1 c.in_err-key.ensures
 
 pub returns : goal.returns
 returns c =
-    let t = c.args.at.case.version.now in
-    let seed = c.args.at.case.seed in
-    let s = c.args.at.state.now in
-    let q = c.args.at.asker.now in
+    let t = c.args.context.case.version.now in
+    let seed = c.args.context.case.seed in
+    let s = c.args.context.state.now in
+    let q = c.args.context.asker.now in
     let rest : Key → Eval Move = λ key. release_to c.args.id key (is_owner (facility_at s.entities key).owner c.args.x.now.number) (first_number (delay_at s.delays key)) in
     let key = c.in_ok-key.key in
     let owns : c.is_owner-owns.result ≡ is_owner (facility_at s.entities key).owner c.args.x.now.number = search rules in

@@ -11,20 +11,20 @@ use Rattle.gw_verbs.proofs.storing.enter_defined.Goals as goal
 
 pub returns-in_err-units : goal.returns-in_err-units
 returns-in_err-units c =
-    let t = c.args.at.case.version.now in
-    let seed = c.args.at.case.seed in
-    let s = c.args.at.state.now in
-    let q = c.args.at.asker.now in
+    let t = c.args.context.case.version.now in
+    let seed = c.args.context.case.seed in
+    let s = c.args.context.state.now in
+    let q = c.args.context.asker.now in
     let name = c.args.name.now in
     let rest : ℕ → Eval Move = λ n. asks (items.Named (asking.Fits n) name) (enter_storage c.args.id name (store_at s.entities (keys.Defined name)) n) in
     decides_left t seed (units_prog s q (option_copied c.args.units)) rest _ c.in_err-units.field-0.0 _ _ c.from_residual.ensures.1 c.in_err-units.ensures
 
 pub returns : goal.returns
 returns c =
-    let t = c.args.at.case.version.now in
-    let seed = c.args.at.case.seed in
-    let s = c.args.at.state.now in
-    let q = c.args.at.asker.now in
+    let t = c.args.context.case.version.now in
+    let seed = c.args.context.case.seed in
+    let s = c.args.context.state.now in
+    let q = c.args.context.asker.now in
     let name = c.args.name.now in
     let rest : ℕ → Eval Move = λ n. asks (items.Named (asking.Fits n) name) (enter_storage c.args.id name (store_at s.entities (keys.Defined name)) n) in
     let n = c.in_ok-units.units in

@@ -15,9 +15,9 @@ use Rattle.gw_verbs.proofs.storing.leave_units.Goals as goal
 
 pub returns-in_err-shares : goal.returns-in_err-shares
 returns-in_err-shares c =
-    let t = c.args.at.case.version.now in
-    let seed = c.args.at.case.seed in
-    let s = c.args.at.state.now in
+    let t = c.args.context.case.version.now in
+    let seed = c.args.context.case.seed in
+    let s = c.args.context.state.now in
     let name = c.args.name.now in
     let store = c.args.storage in
     let units = c.args.units in
@@ -39,9 +39,9 @@ returns-in_err-shares c =
 
 pub returns : goal.returns
 returns c =
-    let t = c.args.at.case.version.now in
-    let seed = c.args.at.case.seed in
-    let s = c.args.at.state.now in
+    let t = c.args.context.case.version.now in
+    let seed = c.args.context.case.seed in
+    let s = c.args.context.state.now in
     let name = c.args.name.now in
     let store = c.args.storage in
     let units = c.args.units in

@@ -12,10 +12,10 @@ use Rattle.gw_verbs.proofs.switches.decide_logic.Goals as goal
 
 pub returns-in_err-key : goal.returns-in_err-key
 returns-in_err-key c =
-    let t = c.args.at.case.version.now in
-    let seed = c.args.at.case.seed in
-    let s = c.args.at.state.now in
-    let q = c.args.at.asker.now in
+    let t = c.args.context.case.version.now in
+    let seed = c.args.context.case.seed in
+    let s = c.args.context.state.now in
+    let q = c.args.context.asker.now in
     let rest : Key → Eval Move = λ key. logic_to c.args.id key (switched c.in-Logic.switching (switch_at s.entities key)) in
     let is : c.args.operator ≡ auxiliaries.Logic c.in-Logic.switching = search rules in
     rw is
@@ -23,10 +23,10 @@ returns-in_err-key c =
 
 pub returns : goal.returns
 returns c =
-    let t = c.args.at.case.version.now in
-    let seed = c.args.at.case.seed in
-    let s = c.args.at.state.now in
-    let q = c.args.at.asker.now in
+    let t = c.args.context.case.version.now in
+    let seed = c.args.context.case.seed in
+    let s = c.args.context.state.now in
+    let q = c.args.context.asker.now in
     let rest : Key → Eval Move = λ key. logic_to c.args.id key (switched c.in-Logic.switching (switch_at s.entities key)) in
     let key = c.in_ok-key.key in
     let set : c.switched-set.result ≡ switched c.in-Logic.switching (switch_at s.entities key) = search rules in

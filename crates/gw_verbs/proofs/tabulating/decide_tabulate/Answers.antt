@@ -9,10 +9,10 @@ use Rattle.gw_verbs.proofs.tabulating.decide_tabulate.Goals as goal
 
 pub returns-in_ok-argument-in-Table : goal.returns-in_ok-argument-in-Table
 returns-in_ok-argument-in-Table c =
-    let t = c.args.at.case.version.now in
-    let seed = c.args.at.case.seed in
-    let s = c.args.at.state.now in
-    let q = c.args.at.asker.now in
+    let t = c.args.context.case.version.now in
+    let seed = c.args.context.case.seed in
+    let s = c.args.context.state.now in
+    let q = c.args.context.asker.now in
     let name = c.in-Table.name in
     let rest = tabulate_with s q c.args.id (keys.Defined name) in
     let whole : tabulate_prog s q c.args.id (option_copied c.args.table) ≡ asks (items.Named asking.Table name) rest = search rules in

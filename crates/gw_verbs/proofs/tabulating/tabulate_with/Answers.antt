@@ -13,19 +13,19 @@ use Rattle.gw_verbs.proofs.tabulating.tabulate_with.Goals as goal
 
 pub returns-in_err-value : goal.returns-in_err-value
 returns-in_err-value c =
-    let t = c.args.at.case.version.now in
-    let seed = c.args.at.case.seed in
-    let s = c.args.at.state.now in
-    let q = c.args.at.asker.now in
+    let t = c.args.context.case.version.now in
+    let seed = c.args.context.case.seed in
+    let s = c.args.context.state.now in
+    let q = c.args.context.asker.now in
     let rest : ℤ → Eval Move = λ v. tabulate_to c.args.id (keys.Defined c.args.name.now) v in
     decides_left t seed (value_there s q (option_copied c.args.argument)) rest _ c.in_err-value.field-0.0 _ _ c.from_residual.ensures.1 c.in_err-value.ensures
 
 pub returns : goal.returns
 returns c =
-    let t = c.args.at.case.version.now in
-    let seed = c.args.at.case.seed in
-    let s = c.args.at.state.now in
-    let q = c.args.at.asker.now in
+    let t = c.args.context.case.version.now in
+    let seed = c.args.context.case.seed in
+    let s = c.args.context.state.now in
+    let q = c.args.context.asker.now in
     let rest : ℤ → Eval Move = λ v. tabulate_to c.args.id (keys.Defined c.args.name.now) v in
     let value = c.in_ok-value.value in
     let made : c.enter_doing.result ≡ moves.Enter c.args.id (changes.Entity (keys.Defined c.args.name.now, deeds.Table value)) fates.Active = search rules in

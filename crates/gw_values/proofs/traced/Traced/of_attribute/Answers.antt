@@ -13,13 +13,13 @@ use Rattle.gw_values.proofs.traced.Traced.of_attribute.Goals as goal
 pub returns-in_err-thing-clause-decided : goal.returns-in_err-thing-clause-decided
 returns-in_err-thing-clause-decided c =
     let w = c.args.self.now.seen in
-    let t = w.at.case.version.now in
-    let seed = w.at.case.seed in
+    let t = w.context.case.version.now in
+    let seed = w.context.case.seed in
     let class = c.args.sna.class in
     let of = c.args.sna.of.now in
     let read = c.args.self.now.read.now.items in
     let valued : List Watched → Eval (ℤ × List Watched) =
-    λ more. attribute_prog w.at.state.now w.at.asker.now class of ~> (λ v. gives (v, with_all_watched read more)) in
+    λ more. attribute_prog w.context.state.now w.context.asker.now class of ~> (λ v. gives (v, with_all_watched read more)) in
     let p = err_from_is_err_and c.from_residual.result c.from_residual.ensures.1 in
     decides_exit t seed (watched_prog class of) valued _ _ _ c.in_err-thing.field-0.0 _ _ refl (ap (λ (r : Result ℤ Halt). with_read r read) p.1) p.2
     c.in_err-thing.ensures
@@ -27,36 +27,36 @@ returns-in_err-thing-clause-decided c =
 pub returns-in_err-value-clause-decided : goal.returns-in_err-value-clause-decided
 returns-in_err-value-clause-decided c =
     let w = c.args.self.now.seen in
-    let t = w.at.case.version.now in
-    let seed = w.at.case.seed in
+    let t = w.context.case.version.now in
+    let seed = w.context.case.seed in
     let class = c.args.sna.class in
     let of = c.args.sna.of.now in
     let read = c.args.self.now.read.now.items in
     let valued : List Watched → Eval (ℤ × List Watched) =
-    λ more. attribute_prog w.at.state.now w.at.asker.now class of ~> (λ v. gives (v, with_all_watched read more)) in
+    λ more. attribute_prog w.context.state.now w.context.asker.now class of ~> (λ v. gives (v, with_all_watched read more)) in
     let more = option_to_list c.in_ok-thing.thing in
     let last : ℤ → Eval (ℤ × List Watched) = λ v. gives (v, with_all_watched read more) in
     let p = err_from_is_err_and c.from_residual-in_err-value.result c.from_residual-in_err-value.ensures.1 in
     decides_then t seed (watched_prog class of) valued more _ _ _ _ c.in_ok-thing.ensures
-    (decides_exit t seed (attribute_prog w.at.state.now w.at.asker.now class of) last _ _ _ c.in_err-value.field-0.0 _ _ refl
+    (decides_exit t seed (attribute_prog w.context.state.now w.context.asker.now class of) last _ _ _ c.in_err-value.field-0.0 _ _ refl
     (ap (λ (r : Result ℤ Halt). with_read r read) p.1) p.2 c.in_err-value.ensures.0)
 
 pub returns-clause-decided : goal.returns-clause-decided
 returns-clause-decided c =
     let w = c.args.self.now.seen in
-    let t = w.at.case.version.now in
-    let seed = w.at.case.seed in
+    let t = w.context.case.version.now in
+    let seed = w.context.case.seed in
     let class = c.args.sna.class in
     let of = c.args.sna.of.now in
     let read = c.args.self.now.read.now.items in
     let valued : List Watched → Eval (ℤ × List Watched) =
-    λ more. attribute_prog w.at.state.now w.at.asker.now class of ~> (λ v. gives (v, with_all_watched read more)) in
+    λ more. attribute_prog w.context.state.now w.context.asker.now class of ~> (λ v. gives (v, with_all_watched read more)) in
     let more = option_to_list c.in_ok-thing.thing in
     let last : ℤ → Eval (ℤ × List Watched) = λ v. gives (v, with_all_watched read more) in
     let v = c.in_ok-value.value in
     let both : ℤ × List Watched = (v, with_all_watched read more) in
     rw c.in_ok-keep.ensures
     (decides_then t seed (watched_prog class of) valued more (Ok both) w.notes.now c.watched.new.notes c.attribute.new.self.notes.now c.in_ok-thing.ensures
-    (decides_then t seed (attribute_prog w.at.state.now w.at.asker.now class of) last v (Ok both) c.watched.new.notes c.attribute.new.self.notes.now c.attribute.new.self.notes.now
+    (decides_then t seed (attribute_prog w.context.state.now w.context.asker.now class of) last v (Ok both) c.watched.new.notes c.attribute.new.self.notes.now c.attribute.new.self.notes.now
     c.in_ok-value.ensures.0
     (decides_gives t seed both c.attribute.new.self.notes.now)))
