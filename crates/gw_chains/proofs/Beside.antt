@@ -97,7 +97,7 @@ nobody_behind ks cs i key distinct placed behind =
     ap (λ (o : Own). o.items) (get_or_past cs i nobody behind)
 
 -- the same for the entries that a contract sees
-pub key_there : (ks : List Key) (cs : List Own) (es : Pairs) (i : ℕ) (key : Key) → chains_of ks cs ≡ es →
+key_there : (ks : List Key) (cs : List Own) (es : Pairs) (i : ℕ) (key : Key) → chains_of ks cs ≡ es →
     slice_get (keys_of es) i ≡ Some key → slice_get ks i ≡ Some key
 key_there ks cs es i key seen placed = ap (λ qs. slice_get qs i) (sym (keys_are ks cs) ∙ ap keys_of seen) ∙ placed
 

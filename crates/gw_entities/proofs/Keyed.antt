@@ -1,6 +1,5 @@
 -- Values of any kind, each beside its key.
 use Rattle.std.proofs.Common.{◌≡◌, ℕ, zero, suc, ◌<◌, ◌≤◌, Bool, true, false, cond, List, [], ◌∷◌, ◌++◌, length, set, Option, Some, None, IfSome, IfNone, slice_get, get_or, refl, sym, ap, subst, ◌∙◌, arith}
-use Rattle.std.proofs.lemmas.List.{length-set, get_or-set_same}
 use Rattle.std.proofs.lemmas.Option.{slice_get_read}
 use Rattle.std.specs.List.{IsDistinct, list_any, zip}
 use Rattle.std.specs.Map.{keys_of, set_value}
@@ -92,18 +91,6 @@ module _ {Own : Type 0} where
   set_beside ks cs i key own apart long there =
       set_at ks cs i own ∙ written_at key_eq key_eq_equiv (zip ks cs) i key there.0 own
       (subst (IsDistinct key_eq) (sym (keys_beside ks cs long)) apart) there.1
-
-  -- which lies there from then on
-  pub place_written : (ks : List Key) (cs : List Own) (i : ℕ) (key : Key) (own : Own) → IsDistinct key_eq ks → length cs ≡ length ks →
-      IsPlace (zip ks cs) key (Some i) → IsPlace (zip ks (set cs i own)) key (Some i)
-  place_written ks cs i key own apart long there =
-      place_beside ks (set cs i own) i key apart (omega (arith, long, length-set cs i own)) (key_at ks cs i key there.0 there.1)
-
-  pub value_written : (ks : List Key) (cs : List Own) (i : ℕ) (key : Key) (own : Own) → IsDistinct key_eq ks → length cs ≡ length ks →
-      IsPlace (zip ks cs) key (Some i) → value_of (zip ks (set cs i own)) key ≡ Some own
-  value_written ks cs i key own apart long there =
-      value_there ks (set cs i own) i key own (place_written ks cs i key own apart long there)
-      (sym (get_or-set_same cs i own own (within_beside ks cs i key there)))
 
   -- a further key
   pub zip_more : (ks : List Key) (cs : List Own) (key : Key) (own : Own) → length cs ≡ length ks →
