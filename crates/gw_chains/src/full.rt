@@ -1,4 +1,4 @@
-ghost use Rattle.std.specs.Prelude.{◌≡◌, ◌+◌, ◌++◌, ◌≤◌, length, filter, not, IfOk, OnOk, true, false};
+ghost use Rattle.std.specs.Prelude.{◌≡◌, ◌+◌, ◌++◌, ◌≤◌, length, filter, not, IfOk, OnOk, false};
 ghost use Rattle.gw_meaning.specs.Changes.{all_lined_up, due, is_due};
 ghost use Rattle.gw_meaning.specs.Step.{least_time};
 ghost use Rattle.gw_chains.specs.Blocks.{time_of};

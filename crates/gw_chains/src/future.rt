@@ -2,7 +2,7 @@ ghost use Rattle.std.specs.Prelude.{◌≡◌, ◌+◌, ◌++◌, ◌∷◌, ◌
 ghost use Rattle.std.specs.Prelude.{Some, OnErr};
 ghost use Rattle.gw_meaning.specs.Changes.{all_lined_up, due, is_due};
 ghost use Rattle.gw_meaning.specs.Step.{least_time};
-ghost use Rattle.gw_chains.specs.Blocks.{all_items, is_in_use, least_times, AreLeasts, AreOthers, AreOwn, IsNoneBefore};
+ghost use Rattle.gw_chains.specs.Blocks.{all_items, least_times, AreLeasts, AreOthers, AreOwn, IsNoneBefore};
 
 use crate::block::{BEYOND, Block, least_of};
 use crate::chain::PriorityChain;

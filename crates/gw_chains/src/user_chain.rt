@@ -1,4 +1,4 @@
-ghost use Rattle.std.specs.Prelude.{◌≡◌, [], length, drop, map, take, ◌==◌, ◌≤◌, ◌+◌, ◌^◌, ◌<◌, OnOk, OnErr, IfOk};
+ghost use Rattle.std.specs.Prelude.{◌≡◌, [], length, drop, map, take, ◌≤◌, ◌+◌, ◌^◌, ◌<◌, OnOk, OnErr, IfOk};
 ghost use Rattle.gw_meaning.specs.Changes.{all_lined_up, linked_to, sent, user_chain_anew};
 ghost use Rattle.gw_meaning.specs.Machine.{no_chain};
 

@@ -4,7 +4,7 @@ use Rattle.std.specs.Prelude.{Ok, List}
 use Rattle.std.proofs.lemmas.List.Elements.{All-map}
 use Rattle.gw_meaning.specs.declared.statement.Numbered.{Numbered}
 use Rattle.gw_meaning.specs.Listing.{Listing}
-use Rattle.gw_lines.specs.Printed.{IsSpelled, listed_text}
+use Rattle.gw_lines.specs.Printed.{IsSpelled}
 use Rattle.gw_lines.proofs.Printed.{printed_models}
 use Rattle.gw_frame.specs.Renamed.{statements_of}
 use Rattle.gw_touch.specs.declared.edit.Edit.{Edit}

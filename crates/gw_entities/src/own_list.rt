@@ -1,4 +1,4 @@
-ghost use Rattle.std.specs.Prelude.{◌≡◌, ℕ, suc, ◌<◌, ◌≤◌, ◌+◌, ◌++◌, [], length, take, drop, Some, slice_get};
+ghost use Rattle.std.specs.Prelude.{◌≡◌, suc, ◌<◌, ◌≤◌, ◌+◌, ◌++◌, [], length, take, drop, Some, slice_get};
 ghost use Rattle.std.specs.Prelude.{IfOk, IfErr, OnOk, OnErr, ◌==◌};
 ghost use Rattle.gw_names.specs.declared.key.Key.{Key};
 ghost use Rattle.gw_entities.specs.Owned.{own_of, with_own, without_own, all_of, said_by, AreRising, AreKnown, IsCut, StandsAt, EndsAt};

@@ -1,6 +1,6 @@
 ghost use Rattle.std.specs.Prelude.{◌≡◌, ◌<◌, ◌≤◌, ◌^◌, [], Some, false, length, slice_get, IfSome, IfNone, IfOk, OnOk};
 ghost use Rattle.std.specs.List.{list_any, IsDistinct};
-ghost use Rattle.indexmap.specs.IndexSet.{insert_key, spare};
+ghost use Rattle.indexmap.specs.IndexSet.{insert_key};
 ghost use Rattle.gw_names.specs.Keys.{key_eq};
 
 use gw_names::Key;

@@ -35,7 +35,6 @@ use Rattle.gw_record.specs.Tape.{Tape, from_tip, Records, IsKeptUp, IsStartEnd, 
 use Rattle.gw_record.specs.Parting.{AreInOrder}
 use Rattle.gw_record.specs.Lookups.{IsStateAt}
 use Rattle.gw_uses.proofs.UseLaws.{reading_cut}
-use Rattle.gw_meaning.specs.declared.item.Item.TheVariants as items
 use Rattle.gw_uses.specs.Uses.{first_in}
 
 -- the last of a longer list, or one of those before

@@ -27,7 +27,7 @@ use Rattle.gw_report.specs.Layout.{section_of, table_of}
 use Rattle.gw_report.specs.Cells.{signed}
 use Rattle.gw_report.specs.Chains.{position_of, next_number, line_of, put_by, by_time, current_line, future_line, current_columns, future_columns, current_text, future_text}
 use Rattle.gw_report.specs.Names.{name_columns, names_in_operand, names_of, names_in, each_once, value_by, next_by, value_text, next_behind, name_lines, names_text}
-use Rattle.gw_report.specs.Storages.{storage_columns, storage_row, storage_line, storages_text}
+use Rattle.gw_report.specs.Storages.{storage_columns, storage_line, storages_text}
 use Rattle.gw_report.specs.Storages as storages
 use Rattle.gw_report.specs.Tables.{table_columns, table_row, scale_of_definition, scale_at, scale_lines, table_lines, tables_text}
 use Rattle.gw_report.specs.Blocks.{label_text, block_line, block_lines_of, block_lines, block_columns, blocks_text}

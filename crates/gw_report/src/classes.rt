@@ -1,6 +1,6 @@
 // The lines of the classes of a table.
 ghost use Rattle.std.specs.Prelude.{◌≡◌, ◌<◌, ◌≤◌, ◌^◌, ◌++◌, ◌∷◌, [], OnOk, IfOk, length, decimal};
-ghost use Rattle.gw_lanes.specs.Counts.{lower, upper, AreRising};
+ghost use Rattle.gw_lanes.specs.Counts.{lower, AreRising};
 ghost use Rattle.gw_report.specs.Cells.{decimals};
 ghost use Rattle.gw_report.specs.Layout.{row_of, rows_of};
 ghost use Rattle.gw_report.specs.Tables.{table_columns, limits_of, limit_text, range_text, class_line, class_lines, scale_lines};

@@ -1,7 +1,6 @@
-ghost use Rattle.std.specs.Prelude.{◌≡◌, ◌≤◌, ◌<◌, ◌^◌, true, not, length, filter};
-ghost use Rattle.std.specs.List.{list_any};
+ghost use Rattle.std.specs.Prelude.{◌≡◌, ◌≤◌, ◌<◌, not, length, filter};
 ghost use Rattle.gw_meaning.specs.declared.watched.Watched.{Watched};
-ghost use Rattle.gw_meaning.specs.Watching.{Waiter, is_watched, transactions_of};
+ghost use Rattle.gw_meaning.specs.Watching.{is_watched, transactions_of};
 ghost use Rattle.gw_meaning.specs.Changes.{is_woken, all_lined_up};
 ghost use Rattle.gw_retry.specs.Waiting.{waiter_of, waiters_of, IsListed, AreListed};
 ghost use Rattle.gw_retry.specs.Concerned.{AreUnconcerned, IsConcernedAt};

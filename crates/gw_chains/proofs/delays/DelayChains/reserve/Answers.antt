@@ -1,7 +1,7 @@
 use Rattle.std.proofs.Common.{rules}
 use Rattle.gw_chains.proofs.Beside.{There, read_again, same_written, waits, within}
 use Rattle.gw_chains.proofs.delays.DelayChains.reserve.Goals as goal
-use Rattle.gw_chains.proofs.delays.DelayChains.reserve.Goals.{After-index_mut, After-reserve}
+use Rattle.gw_chains.proofs.delays.DelayChains.reserve.Goals.{After-index_mut}
 
 pub index_mut-requires : goal.index_mut-requires
 index_mut-requires c = search (rules, within)
