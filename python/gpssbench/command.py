@@ -1,0 +1,95 @@
+"""What all tools share: how they read their words, and how they end."""
+import os
+import sys
+from collections.abc import Callable
+
+
+class Problem(Exception):
+    """Input that a tool cannot work with, in one line: status 2."""
+
+
+class Words:
+    """The words of a command line: options first, `--to DIR` or `--to=DIR`, flags, and then the rest."""
+
+    def __init__(self, words: list[str], options: str = "", flags: str = ""):
+        self.options: dict[str, str] = {}
+        self.flags: set[str] = set()
+        known, lone = options.split(), flags.split()
+        at = 0
+        while at < len(words) and words[at].startswith("-") and words[at] != "-":
+            word, at = words[at], at + 1
+            if word == "--":
+                break
+            name, is_set, value = word.partition("=")
+            if name in known:
+                if not is_set:
+                    if at == len(words):
+                        raise Problem(f"{name} wants a word after it")
+                    value, at = words[at], at + 1
+                self.options[name] = value
+            elif name in lone and not is_set:
+                self.flags.add(name)
+            else:
+                raise Problem(f"no option {word}; --help shows them")
+        self.rest = words[at:]
+
+    def number(self, name: str, usual: int | None, least: int, most: int) -> int | None:
+        """The whole number of an option, or the usual one."""
+        if name not in self.options:
+            return usual
+        text = self.options[name]
+        if not (text.isascii() and text.isdigit() and least <= int(text) <= most):
+            raise Problem(f"{name} {text}: a whole number from {least} to {most} is wanted")
+        return int(text)
+
+    def level(self) -> float:
+        """The level of the intervals, as --level 99 has it in per cent; 95 without it."""
+        text = self.options.get("--level", "95")
+        try:
+            level = float(text)
+        except ValueError:
+            level = 0.0
+        if not 50 <= level < 100:
+            raise Problem(f"--level {text}: per cent from 50 to below 100 are wanted, as 95 or 99")
+        return level / 100
+
+
+def run(main: Callable[[list[str]], int | None], usage: str) -> None:
+    """Runs a tool and ends the process: `--help` goes to standard output with status 0; bad input is one line on standard
+    error and status 2; a reader that goes away, as `| head`, ends it in silence."""
+    name = "tools/" + os.path.basename(sys.argv[0])
+    words = sys.argv[1:]
+    try:
+        if any(word in ("--help", "-h") for word in words):
+            print(usage.strip())
+            status = 0
+        else:
+            status = main(words) or 0
+        sys.stdout.flush()
+    except Problem as why:
+        sys.stdout.flush()
+        print(f"{name}: {why}", file=sys.stderr)
+        status = 2
+    except BrokenPipeError:
+        # nobody reads any more: what is still to be written goes nowhere
+        os.dup2(os.open(os.devnull, os.O_WRONLY), sys.stdout.fileno())
+        status = 0
+    except OSError as why:
+        print(f"{name}: {why.filename or 'input or output'}: {why.strerror}", file=sys.stderr)
+        status = 2
+    except KeyboardInterrupt:
+        status = 130
+    sys.exit(status)
+
+
+def warn(text: str) -> None:
+    """A line on standard error, in the tool's name."""
+    print(f"tools/{os.path.basename(sys.argv[0])}: {text}", file=sys.stderr)
+
+
+def lines_of(path: str) -> list[str]:
+    """The lines of a text file, or of standard input for `-`."""
+    if path == "-":
+        return sys.stdin.buffer.read().decode("latin-1").replace("\r\n", "\n").split("\n")
+    with open(path, encoding="latin-1", newline="") as file:
+        return file.read().replace("\r\n", "\n").split("\n")

@@ -1,0 +1,1 @@
+../../bench/statements.py
