@@ -49,18 +49,23 @@ def meaning(code: str) -> tuple[str, str]:
 
 
 def said(code: str, cure: str | None = None) -> list[str]:
-    """The lines on a code: what is wrong, and what to do, in general or in the case at hand."""
+    """The lines on a code: what is wrong, and what to do, in general or in the case at hand. Of a line that is refused
+    the case at hand says both."""
+    if cure is not None and code.startswith("L"):
+        return [f"{code}: {cure}"]
     what, general = meaning(code)
     todo = general if cure is None else cure
     return [f"{code}: {what}.", *([f"What to do: {plain(todo)}"] if todo else [])]
 
 
+def abbreviated(word: str) -> str | None:
+    """The verb that a word of three letters or more abbreviates."""
+    begun = [verb for verb in statements.VERBS if verb.startswith(word)] if len(word) >= 3 else []
+    return begun[0] if len(begun) == 1 else None
+
+
 def verb_meant(word: str) -> str | None:
-    """The verb that a word is most likely meant to be: an abbreviation, or a slip."""
-    if len(word) >= 3:
-        begun = [verb for verb in statements.VERBS if verb.startswith(word)]
-        if len(begun) == 1:
-            return begun[0]
+    """The verb that a word is most likely meant to be, by its letters."""
     near = difflib.get_close_matches(word, statements.VERBS, 1, 0.7)
     return near[0] if near else None
 
@@ -78,6 +83,8 @@ def unknown_verb(text: str) -> str | None:
         if glued and glued[1] in statements.VERBS:
             return f"a blank is missing after the verb {glued[1]}."
     for word in words:
+        if verb := abbreviated(word):
+            return f"no verb is called {word}; {verb}? Verbs are written whole."
         if word in LEFT_OUT and not word.isdigit():
             return left_out_cure(word)
     for word in reversed(words):
