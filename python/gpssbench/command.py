@@ -9,15 +9,22 @@ class Problem(Exception):
 
 
 class Words:
-    """The words of a command line: options first, `--to DIR` or `--to=DIR`, flags, and then the rest."""
+    """The words of a command line: options, `--to DIR` or `--to=DIR`, flags, and the rest. `in_front` says that options
+    stand in front of the rest alone, which may be another program's words."""
 
-    def __init__(self, words: list[str], options: str = "", flags: str = ""):
+    def __init__(self, words: list[str], options: str = "", flags: str = "", in_front: bool = False):
         self.options: dict[str, str] = {}
         self.flags: set[str] = set()
+        self.rest: list[str] = []
         known, lone = options.split(), flags.split()
         at = 0
-        while at < len(words) and words[at].startswith("-") and words[at] != "-":
+        while at < len(words):
             word, at = words[at], at + 1
+            if not word.startswith("--") and not (word[:1] == "-" and word[1:].isalpha()):
+                self.rest.append(word)
+                if in_front:
+                    break
+                continue
             if word == "--":
                 break
             name, is_set, value = word.partition("=")
@@ -31,7 +38,7 @@ class Words:
                 self.flags.add(name)
             else:
                 raise Problem(f"no option {word}; --help shows them")
-        self.rest = words[at:]
+        self.rest += words[at:]
 
     def number(self, name: str, usual: int | None, least: int, most: int) -> int | None:
         """The whole number of an option, or the usual one."""

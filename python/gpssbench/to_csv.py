@@ -69,7 +69,7 @@ def by_running(words: list[str]) -> tuple[list[tables.Run], int]:
 
 
 def main(words: list[str]) -> int:
-    read = Words(words, "--to --script", "--run")
+    read = Words(words, "--to --script", "--run", in_front=True)
     runs, status = by_running(read.rest) if "--run" in read.flags else by_files(read)
     if not runs:
         raise Problem("no report was written")
