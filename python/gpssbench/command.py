@@ -1,5 +1,7 @@
 """What all tools share: how they read their words, and how they end."""
+import importlib.util
 import os
+import subprocess
 import sys
 from collections.abc import Callable
 
@@ -87,6 +89,36 @@ def run(main: Callable[[list[str]], int | None], usage: str) -> None:
     except KeyboardInterrupt:
         status = 130
     sys.exit(status)
+
+
+# The Debian package of each Python package that is not part of Python.
+DEBIAN = {
+    "distributed": "python3-distributed", "matplotlib": "python3-matplotlib", "jinja2": "python3-jinja2",
+    "tornado": "python3-tornado", "selenium": "python3-selenium", "pyarrow": "python3-pyarrow", "pandas": "python3-pandas",
+}
+SYSTEM = "/usr/bin/python3"
+
+
+def has(package: str, python: str | None = None) -> bool:
+    """Whether a Python has a package: this one, or another one by its path."""
+    if python is None:
+        return importlib.util.find_spec(package) is not None
+    command = [python, "-c", f"import sys, importlib.util as u; sys.exit(u.find_spec({package!r}) is None)"]
+    return os.path.exists(python) and subprocess.run(command, capture_output=True).returncode == 0
+
+
+def with_packages(*packages: str) -> None:
+    """Sees to it that packages are there. Debian's belong to /usr/bin/python3, which need not be the Python that runs this:
+    then the tool begins anew with that one."""
+    missing = [package for package in packages if not has(package)]
+    if not missing:
+        return
+    is_other = os.path.realpath(sys.executable) != os.path.realpath(SYSTEM) and "GPSSBENCH_PYTHON" not in os.environ
+    if is_other and all(has(package, SYSTEM) for package in packages):
+        sys.stdout.flush()
+        os.execve(SYSTEM, [SYSTEM, *sys.argv], {**os.environ, "GPSSBENCH_PYTHON": SYSTEM})
+    names = " ".join(DEBIAN.get(package, package) for package in missing)
+    raise Problem(f"{', '.join(missing)} is not here: python/install installs it, or `apt-get install {names}`")
 
 
 def warn(text: str) -> None:

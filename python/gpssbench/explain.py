@@ -150,7 +150,7 @@ class Explainer:
             if self.name:
                 self.named[version], self.name = self.name, None
             if version in self.named:
-                say(f"version {version}: {self.named[version]}")
+                say(f"version {version}: {self.named[version]}".encode().decode("latin-1"))
 
     def explain(self, lines: list[script.Line]) -> int:
         session = self.run(script.plain(lines))

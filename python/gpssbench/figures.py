@@ -33,10 +33,10 @@ class Point:
 def read_table(path: str) -> tuple[list[str], list[dict[str, str]]]:
     """The titles and rows of a CSV file."""
     try:
-        with open(path, newline="", encoding="latin-1") as file:
+        with open(path, newline="", encoding="utf-8") as file:
             reader = csv.DictReader(file)
             return list(reader.fieldnames or []), list(reader)
-    except csv.Error as why:
+    except (csv.Error, UnicodeDecodeError) as why:
         raise Problem(f"{path} is no CSV: {why}") from None
 
 

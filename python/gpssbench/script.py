@@ -47,10 +47,18 @@ def read(lines: list[str]) -> list[Line]:
     for number, text in enumerate(lines, 1):
         comment = text.strip(" \t")
         if comment.startswith("#"):
-            found.append(Line(number, text, "", comment[1:].strip() or None))
+            found.append(Line(number, text, "", name_of(comment[1:].strip()) or None))
         else:
             found.append(Line(number, text, text))
     return found
+
+
+def name_of(text: str) -> str:
+    """A name from a line whose bytes were read one by one; most files are UTF-8."""
+    try:
+        return text.encode("latin-1").decode("utf-8")
+    except UnicodeError:
+        return text
 
 
 def has_places(lines: list[Line]) -> bool:

@@ -169,7 +169,7 @@ def write(folder: str, made: dict[str, tuple[list[str], list[list[str]]]]) -> No
         path = os.path.join(folder, kind + ".csv")
         if kind in made:
             titles, table = made[kind]
-            with open(path + ".new", "w", newline="") as file:
+            with open(path + ".new", "w", newline="", encoding="utf-8") as file:
                 csv.writer(file).writerows([titles, *table])
             os.replace(path + ".new", path)
         elif is_ours(path):
@@ -179,7 +179,7 @@ def write(folder: str, made: dict[str, tuple[list[str], list[list[str]]]]) -> No
 def is_ours(path: str) -> bool:
     """Whether a file is a table that `write` wrote, or that the tools wrote before they had sessions."""
     try:
-        with open(path, newline="") as file:
+        with open(path, newline="", encoding="utf-8") as file:
             titles = next(csv.reader(file), [])
     except (OSError, UnicodeDecodeError, csv.Error):
         return False
