@@ -297,6 +297,12 @@ class Reports(list):
         return html_table(titles, cells)
 
 
+def explained(end: Ended) -> Ended:
+    """The end of a session, with what its code means."""
+    stop = re.match(r"stopped: (F\d)", end.told)
+    return Ended(f"{end.told}: {codes.meaning(stop[1])[0]}", end.status) if stop else end
+
+
 class Bench:
     """A session that is kept open over one model."""
 
@@ -323,7 +329,7 @@ class Bench:
         try:
             return self.session.ask(line)
         except Ended as end:
-            raise self.model_refused(end) or end from None
+            raise self.model_refused(end) or explained(end) from None
 
     def model_refused(self, end: Ended) -> Refused | None:
         told = re.fullmatch(r"model refused: (.*)", end.told.split("\n")[0])

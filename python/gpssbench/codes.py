@@ -86,9 +86,10 @@ def unknown_verb(text: str) -> str | None:
             return f"no verb is called {word}; {verb}? Verbs are written whole."
         if word in LEFT_OUT and not word.isdigit():
             return left_out_cure(word)
-    for word in reversed(words):
-        if verb := verb_meant(word):
-            return f"no verb is called {word}; {verb}?"
+    near = [(verb, word) for word in words if (verb := verb_meant(word))]
+    if near:
+        verb, word = max(near, key=lambda it: difflib.SequenceMatcher(None, *it).ratio())
+        return f"no verb is called {word}; {verb}?"
     return None
 
 

@@ -129,7 +129,7 @@ def on_cluster(chunks: list[dict], address: str) -> Iterator[dict]:
             raise Problem(f"the scheduler at {address} has no workers")
         client.register_worker_plugin(UploadFile(package_as_zip(folder)))
         futures = [client.submit(run_chunk, chunk, pure=False, retries=TRIES) for chunk in chunks]
-        for future in as_completed(futures):
+        for future in as_completed(futures, loop=client.loop):
             try:
                 yield future.result()
             except Exception as why:  # whatever a worker raised: the chunk failed on each try

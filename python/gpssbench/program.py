@@ -106,6 +106,8 @@ class Session:
                 pass
             told = self.process.stderr.read().decode("latin-1").strip("\n")
             self.end = Ended(told, self.process.wait())
+            self.process.stdout.close()
+            self.process.stderr.close()
         return self.end
 
     def close(self) -> None:

@@ -1,0 +1,90 @@
+"""A model that is kept open: reports, edits, refusals, and a program that dies."""
+import os
+import signal
+import unittest
+
+from common import DESK, ROOT, SEED, InFolder
+from gpssbench import Bench, Ended, NoReplication, NoStart, Problem, Refused, TooLong
+
+
+class OpenModel(InFolder):
+    def open(self, text=DESK, **words):
+        bench = Bench("-", text=text, **{"seed": SEED, **words})
+        self.addCleanup(bench.close)
+        return bench
+
+    def test_figures_are_those_of_the_readme(self):
+        with open(os.path.join(ROOT, "README.md")) as file:
+            self.assertIn("CLERK           201    0.893     160.159", file.read())
+        report = self.open().report()
+        self.assertEqual((report.facilities["CLERK"].util, report.queues["LINE"].entry_0), (0.893, 105))
+        self.assertEqual((report.head.end_time, report.outcome, report.seed), (36026, "COMPLETE", SEED))
+        self.assertEqual(report.measure("facility CLERK AVE.TIME"), 160.159)
+
+    def test_replications_and_paired_differences(self):
+        bench = self.open()
+        bench.replicate(8)
+        base = bench.reports()
+        bench.change("@Serve", "ADVANCE 140,40")
+        more = bench.reports()
+        self.assertEqual(len(more.queues["Line"].ave_time), 8)
+        found = more.compare(base, "queue LINE AVE.TIME")
+        # as the README has it, from tools/intervals
+        self.assertEqual((round(found.mean, 3), round(found.mean - found.half, 3)), (-15.186, -18.624))
+        self.assertEqual(bench.list()[4], "SERVE ADVANCE 140,40")
+        self.assertEqual(len(more.rows("queue")), 8)
+        self.assertIn("<td>queue LINE</td>", more._repr_html_())
+
+    def test_nothing_of_a_model_is_html(self):
+        report = self.open(DESK.replace("Serve", "Script")).report()
+        self.assertIn("<td>SCRIPT</td>", report._repr_html_())
+        from gpssbench.bench import html_table
+
+        self.assertIn("&lt;script&gt;", html_table(["a"], [["<script>"]]))
+
+    def test_refusals_have_their_code_and_sentence(self):
+        bench = self.open()
+        with self.assertRaises(Refused) as refused:
+            bench.change(5, "ADVANCE 1.5")
+        self.assertEqual(refused.exception.code, "E2 L5 1")
+        self.assertIn("no decimals", refused.exception.sentence)
+        with self.assertRaises(Refused) as refused:
+            bench.capacity("Clerk", 2)
+        self.assertIn("CLERK is a facility", refused.exception.sentence)
+        with self.assertRaisesRegex(Problem, "no statement has the label"):
+            bench.change("@Nobody", "ADVANCE 5")
+        self.assertEqual(bench.version, 0)
+        with self.assertRaises(Refused) as refused:
+            self.open("GENERATE 5\nADVANSE 3\n").list()
+        self.assertEqual(refused.exception.code, "line 2 L3")
+        self.assertIn("ADVANCE?", refused.exception.sentence)
+
+    def test_queries_without_a_report(self):
+        bench = self.open(limit=100)
+        self.assertRaises(TooLong, bench.report)
+        self.assertRaises(NoStart, bench.report, 1, 2)
+        self.assertRaises(NoReplication, bench.report, 5, 1)
+        some = self.open("GENERATE 10,,,1\nTRANSFER .5,,Round\nTERMINATE 1\nRound BUFFER\nTRANSFER ,Round\nSTART 1\n", limit=50)
+        some.replicate(16)
+        reports = some.reports()
+        self.assertEqual(len(reports) + len(reports.missing), 16)
+        self.assertEqual(set(reports.missing.values()), {"toolong"})
+
+    def test_a_program_that_dies_says_so(self):
+        bench = self.open()
+        first = bench.report()
+        os.kill(bench.session.process.pid, signal.SIGKILL)
+        with self.assertRaises(Ended):
+            bench.report()
+        with self.assertRaises(Ended):
+            bench.list()
+        self.assertEqual(first.head.end_time, 36026)
+        with self.assertRaisesRegex(Ended, "no such file"):
+            Bench(self.path("none.gps")).list()
+
+    def test_peek_says_how_many_steps_there_are(self):
+        self.assertEqual(self.open().peek(), 0)
+
+
+if __name__ == "__main__":
+    unittest.main()
