@@ -146,19 +146,23 @@ def tables(cells: list[list[str]]):
     return [(TABLE, of_tables), (CLASS, of_classes)]
 
 
+# What an average is divided by.
+OVER = {
+    ("facility", "AVE. TIME"): lambda row: int(row["ENTRIES"]),
+    ("queue", "AVE.TIME"): lambda row: int(row["ENTRY"]),
+    ("queue", "AVE.(-0)"): lambda row: int(row["ENTRY"]) - int(row["ENTRY(0)"]),
+    ("table", "MEAN"): lambda row: int(row.get("VALUES", 1)),
+    ("table", "STD.DEV."): lambda row: int(row.get("VALUES", 2)) - 1,
+}
+
+
 def figure(kind: str, column: str, row: dict[str, str] | None) -> float | None:
     """The figure of a column in a row of a report. A run without a row for the entity did not use it: contents, counts
     and utilizations are 0 then, and all else has no figure. Neither has an average over nothing."""
     if row is None:
         return 0.0 if column in ZERO_WITHOUT_ROW.get(kind, []) else None
-    entries = {
-        ("facility", "AVE. TIME"): lambda: int(row["ENTRIES"]),
-        ("queue", "AVE.TIME"): lambda: int(row["ENTRY"]),
-        ("queue", "AVE.(-0)"): lambda: int(row["ENTRY"]) - int(row["ENTRY(0)"]),
-        ("table", "MEAN"): lambda: int(row.get("VALUES", 1)),
-        ("table", "STD.DEV."): lambda: int(row.get("VALUES", 2)) - 1,
-    }.get((kind, column))
-    if entries is not None and entries() <= 0:
+    over = OVER.get((kind, column))
+    if over is not None and over(row) <= 0:
         return None
     try:
         return float(row[column])

@@ -86,7 +86,7 @@ class Parts:
     def put(self, cell: int, part: dict) -> None:
         path = self.path(cell, part["first"])
         with open(path + ".new", "w") as file:
-            json.dump(part, file, separators=(",", ":"))
+            file.write(json.dumps(part, separators=(",", ":")))
         os.replace(path + ".new", path)
 
     def get(self, cell: int, first: int) -> dict:
