@@ -4,6 +4,7 @@ import itertools
 import os
 from collections.abc import Iterator
 
+from . import codes, statements
 from .answers import KINDS, figure
 from .bench import Measure
 from .stats import Estimate, differences, estimate
@@ -158,7 +159,8 @@ def write(study, folder: str) -> tuple[int, int, list[str]]:
     of = ["n", "of", "mean", "half", "least", "greatest"]
     write_rows(folder, "cells.csv", ["cell", *factors, "measure", "figure", *of], cells)
     write_rows(folder, "pairs.csv", ["kind", "measure", "cell", "less", *of, "apart"], pairs_of(study, values))
-    write_rows(folder, "blocks.csv", ["cell", "LOC", "LABEL", "BLOCK TYPE", "entries", "current"], blocks_of(study))
+    titles = ["cell", "place", "LOC", "statement", "entries", "current"]
+    write_rows(folder, "statements.csv", titles, statements_of(study))
     write_rows(folder, "classes.csv", ["cell", "TABLE", "ABOVE", "TO", "FREQUENCY"], classes_of(study))
     most = max(study.counts.values())
     write_rows(folder, "seeds.csv", ["replication", "seed"], list(enumerate(study.seeds[:most], 1)))
@@ -169,19 +171,25 @@ def write(study, folder: str) -> tuple[int, int, list[str]]:
     return runs, len(failed), without
 
 
-def blocks_of(study) -> Iterator[list[str]]:
-    """The mean counts of each scenario's blocks."""
+def statements_of(study) -> Iterator[list[str]]:
+    """The statements of each scenario, and of blocks how many entered them and stand in them at the end, on average."""
     for at, cell in enumerate(study.plan.cells):
-        sums: dict[int, list] = {}
+        sums: dict[int, list[int]] = {}
         count = 0
         for part in study.parts_of(at, study.counts[cell.name]):
             count += sum(1 for run in part["runs"] if run[3])
-            for position, (label, verb, entries, current) in part["blocks"].items():
-                own = sums.setdefault(int(position), [label, verb, 0, 0])
-                own[2] += entries
-                own[3] += current
-        for position, (label, verb, entries, current) in sorted(sums.items()):
-            yield [cell.name, str(position), label, verb, short(entries / count), short(current / count)]
+            for position, (_, _, entries, current) in part["blocks"].items():
+                own = sums.setdefault(int(position), [0, 0])
+                own[0] += entries
+                own[1] += current
+        position = 0
+        for place, (text, it) in enumerate(zip(cell.texts, codes.read(cell.texts)), 1):
+            if it.verb not in statements.BLOCKS:
+                yield [cell.name, str(place), "", text, "", ""]
+                continue
+            position += 1
+            means = [short(total / count) for total in sums[position]] if position in sums else ["", ""]
+            yield [cell.name, str(place), str(position), text, *means]
 
 
 def classes_of(study) -> Iterator[list[str]]:

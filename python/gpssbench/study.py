@@ -10,8 +10,8 @@ wherever it ran.
 
 Into DIR (`study` without --to) it writes runs.csv (each figure of each run in a row of its own), cells.csv (each measure
 of each scenario: its mean, half-width, least and greatest), pairs.csv (paired differences to the base, to the neighbour,
-and of all pairs, by Bonferroni), failed.csv, seeds.csv, blocks.csv, classes.csv, model.gps and plan.toml; with --parquet
-runs.parquet, too. A study that was stopped goes on with --resume.
+and of all pairs, by Bonferroni), failed.csv, seeds.csv, statements.csv, classes.csv, model.gps and plan.toml; with
+--parquet runs.parquet, too. A study that was stopped goes on with --resume.
 
 Status 0: all is well. 1: a run did not end as it should (failed.csv has it), or the precision was not reached. 2: bad
 input, which is found before anything runs where that is possible."""
