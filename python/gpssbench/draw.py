@@ -124,7 +124,7 @@ def moments(pairs: Pairs) -> tuple[float, float]:
 def of_distribution(name: str, read: Words) -> tuple[Pairs, float, float]:
     """The points of a distribution, shifted by one factor so that the mean is right, and its own mean and deviation."""
     quantiles, mean, deviation = quantile(name, read)
-    listed = shares(read.number("--points", 32, 8, 200))
+    listed = shares(read.number("--points", 32, 24, 200))
     last = 0.9998 if name != "triangle" else 1.0
     first = 0.0002 if name in ("normal", "lognormal") else 0.0
     pairs = [(share, quantiles(min(last, max(first, share)))) for share in listed]

@@ -184,6 +184,8 @@ class Page:
         self.pictures = Pictures()
         self.scenarios = list(dict.fromkeys(row["cell"] for row in self.cells))
         self.base = self.plan.get("base", self.scenarios[0])
+        if self.base not in self.scenarios:
+            self.base = self.scenarios[0]
 
     def text(self, name: str) -> str:
         with open(os.path.join(self.folder, name), encoding="utf-8", errors="replace") as file:

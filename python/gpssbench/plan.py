@@ -210,11 +210,25 @@ def prepare(plan: Plan, model: str) -> None:
         starts = sum(it.verb == "START" for it in codes.read(cell.texts))
         if starts < plan.start:
             raise Problem(f"scenario {cell.name}: start = {plan.start}, and the model has {starts} START")
+    drop_twin(plan)
     for name, measure in plan.measures.items():
         there = [it for cell in plan.cells for it in (named(cell.texts, measure),) if it is not None]
         if there and not any(measure.entity in it for it in there):
             known = sorted({it for names in there for it in names})
             raise Problem(f"measures, {name}: no {measure.kind} {measure.entity}, but {', '.join(known) or 'none'}")
+
+
+def drop_twin(plan: Plan) -> None:
+    """Leaves out the model as it is where a cell of the grid is the same model: that one is the base then."""
+    first = plan.cells[0]
+    if first.name != AS_IT_IS or plan.base != AS_IT_IS:
+        return
+    of_text = ("insert", "delete", "change", "capacity")
+    for cell in plan.cells[1:]:
+        if cell.texts == first.texts and all(it.split()[0] in of_text for it in [*first.plain, *cell.plain]):
+            plan.cells.remove(first)
+            plan.base = cell.name
+            return
 
 
 VERBS_OF = {
