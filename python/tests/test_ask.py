@@ -1,0 +1,97 @@
+"""The prompt, over a pipe and at a terminal, and the model that is kept under it."""
+import os
+import pty
+import select
+import subprocess
+import time
+import unittest
+
+from common import DESK, ROOT, SEED, InFolder, tool
+from gpssbench.kept_model import KeptModel, compare
+
+
+class Prompts(InFolder):
+    def ask(self, *lines, words=()):
+        path = self.write("desk.gps", DESK)
+        ran = tool("ask", path, "--seed", str(SEED), *words, given="".join(f"{line}\n" for line in lines).encode())
+        self.assertEqual((ran.returncode, ran.stderr), (0, b""))
+        return ran.stdout.decode()
+
+    def test_a_difference_is_that_of_the_readme(self):
+        told = self.ask("replicate 8", "change @Serve ADVANCE 140,40", "compare")
+        self.assertIn("5: SERVE ADVANCE 160,40 -> SERVE ADVANCE 140,40\n", told)
+        # -15.186, from -18.624 to -11.747, stands in the README
+        line = next(line for line in told.split("\n") if line.startswith("queue LINE AVE.TIME"))
+        self.assertEqual(line.split()[3:], ["20.490", "5.305", "-15.186", "3.438", "*"])
+
+    def test_undo_and_redo(self):
+        told = self.ask("delete @Serve", "undo", "compare", "redo", "list", "redo", "undo", "undo")
+        self.assertIn("5: deleted SERVE ADVANCE 160,40\n5: inserted SERVE ADVANCE 160,40\nnothing differs\n", told)
+        self.assertIn("    5   RELEASE CLERK\n", told)
+        self.assertEqual(told.count("there is nothing to redo"), 1)
+        self.assertEqual(told.count("there is nothing to undo"), 1)
+
+    def test_what_is_wrong_is_said(self):
+        told = self.ask("change 5 ADVANCE 1.5", "hlep", "explain M3", "save /nowhere/x.gps", "report 1 9", "report 7")
+        for part in ("no decimals", "no command hlep; help?", "M3: ", "/nowhere/x.gps: No such file", "nostart: ", "noreplication: "):
+            self.assertIn(part, told)
+        bad = tool("ask", self.write("bad.gps", "GENERATE 5\nADVANSE 3\n"))
+        self.assertEqual((bad.returncode, bad.stderr.count(b"\n"), b"ADVANCE?" in bad.stderr), (2, 1, True), bad.stderr)
+
+    def test_a_model_is_saved_with_its_comments(self):
+        text = "* A desk\nGENERATE 10 ; come\n* two\nQUEUE Line ; waits\nTERMINATE 1\nSTART 2\n* the end\n"
+        kept = KeptModel(self.write("desk.gps", text))
+        self.addCleanup(kept.bench.close)
+        self.assertEqual(kept.model_text(), text)
+        kept.edit("insert 3 DEPART Line")
+        kept.edit("change 2 QUEUE Other")
+        kept.edit("delete 1")
+        self.assertEqual(kept.model_text().split("\n")[:3], ["* A desk", "* two", "        QUEUE    OTHER"])
+        for _ in range(3):
+            kept.undo()
+        self.assertEqual(kept.texts(), ["GENERATE 10", "QUEUE LINE", "TERMINATE 1", "START 2"])
+        self.assertIn("QUEUE Line ; waits", kept.model_text())
+
+    def test_each_edit_is_on_the_disk(self):
+        journal = self.path("desk.edits")
+        path = self.write("desk.gps", DESK)
+        kept = KeptModel(path, journal=journal)
+        kept.edit("change @Serve ADVANCE 140,40")
+        kept.bench.session.process.kill()
+        self.assertEqual(self.read("desk.edits"), b"change 5 SERVE ADVANCE 140,40\n")
+        with open(journal, "a") as file:
+            file.write("change 5 ADV")  # the disk was full: nobody was shown this one
+        again = KeptModel(path, journal=journal)
+        self.addCleanup(again.bench.close)
+        self.assertEqual((again.replayed, again.texts()[4]), (1, "SERVE ADVANCE 140,40"))
+        found = compare(again.baseline(1), again.reports(1))
+        self.assertTrue(any(it.change.mean for it in found))
+
+    def test_completion_at_a_terminal(self):
+        path = self.write("desk.gps", DESK)
+        master, slave = pty.openpty()
+        env = {**os.environ, "HOME": self.folder, "TERM": "dumb"}
+        asking = subprocess.Popen([os.path.join(ROOT, "tools", "ask"), path], stdin=slave, stdout=slave, stderr=slave, env=env)
+        os.close(slave)
+        told = b""
+
+        def until(part):
+            nonlocal told
+            ends = time.monotonic() + 20
+            while part not in told and time.monotonic() < ends:
+                if select.select([master], [], [], 0.2)[0]:
+                    told += os.read(master, 4096)
+            self.assertIn(part, told)
+
+        until(b"gpss> ")
+        os.write(master, b"sho\tqueue LI\tENTRY\n")
+        until(b"queue LINE ENTRY")
+        until(b"201.000")
+        os.write(master, b"quit\n")
+        self.assertEqual(asking.wait(timeout=20), 0)
+        os.close(master)
+        self.assertIn(b"show queue LINE ENTRY", self.read(".gpssbench_history"))
+
+
+if __name__ == "__main__":
+    unittest.main()
