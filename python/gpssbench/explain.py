@@ -102,7 +102,7 @@ class Explainer:
         blocks = {str(position): place for position, place in enumerate(places, 1)}
         if current:
             number, _, _, stands, sent = current[0]
-            told = f"cannot enter block {sent}" if sent in blocks else f"has no block behind block {stands}"
+            told = f"cannot enter block {sent}" if sent in blocks else f"has no block after block {stands}"
             place = blocks.get(sent) or blocks.get(stands)
             if place:
                 say(f"Transaction {number} {told}: place {place} in `list`, `{texts[place - 1]}`.")
