@@ -78,8 +78,7 @@ class Prompt:
         if own:
             own(rest)
         elif word == "replicate" and len(rest) == 1 and rest[0].isdigit():
-            for _ in range(int(rest[0]) - len(self.kept.bench.replications)):
-                self.add_replication()
+            self.kept.add_replications(int(rest[0]))
             print(f"{len(self.kept.bench.replications)} replications")
         elif word in script.EDITS:
             print(self.kept.edit(line) or f"ok {self.kept.bench.version}")
@@ -87,15 +86,6 @@ class Prompt:
             near = codes.difflib.get_close_matches(word, COMMANDS, 1, 0.5)
             raise Problem(f"no command {word}{f'; {near[0]}?' if near else ''} `help` shows them")
         return False
-
-    def add_replication(self) -> None:
-        from .seeds import RECOMMENDED
-
-        used = self.kept.bench.replications
-        seed = next((it for it in RECOMMENDED if it not in used.values()), None)
-        if seed is None:
-            raise Problem("a session has 32 replications at most; tools/study takes any number")
-        self.kept.edit(f"replicate {max(used) + 1} {seed}")
 
     def help(self, rest: list[str]) -> None:
         print(__doc__.split("\n\n", 2)[2].strip("\n"))

@@ -10,6 +10,7 @@ from . import codes, script, statements
 from .answers import KINDS
 from .bench import Bench, Measure, Refused, Reports
 from .command import Problem
+from .seeds import RECOMMENDED
 from .stats import Estimate, differences, estimate
 
 # The figures that are shown of an entity where not all are wanted.
@@ -107,10 +108,10 @@ class KeptModel:
         self.names: dict[str, int] = {}
         self.base_texts = [it.text for it in self.statements]
         self.known_baseline: tuple[tuple, Reports] | None = None
+        self.pinned: int | None = None
         self.journal = journal
         self.replayed = self.replay() if journal and os.path.exists(journal) else 0
-        if replications > len(self.bench.replications):
-            self.bench.replicate(replications)
+        self.add_replications(replications)
 
     # ---- edits
 
@@ -121,10 +122,24 @@ class KeptModel:
         whole, _, _ = text.rpartition("\n")
         lines = [line for line in whole.split("\n") if line.strip() and not line.startswith("#")]
         journal, self.journal = self.journal, None
-        for line in lines:
-            self.edit(line)
+        for number, line in enumerate(lines, 1):
+            try:
+                self.edit(line)
+            except (Refused, Problem) as why:
+                raise Problem(f"{journal}, line {number}, `{line}`: {why}") from None
         self.journal = journal
         return len(lines)
+
+    def add_replications(self, count: int) -> None:
+        """Adds replications until there are so many, with the recommended seeds; no undo takes them back."""
+        seeds = [it for it in RECOMMENDED if it not in self.bench.replications.values()]
+        while len(self.bench.replications) < count:
+            if not seeds:
+                raise Problem("a session has 32 replications at most; tools/study takes any number")
+            number, seed = max(self.bench.replications) + 1, seeds.pop(0)
+            self.bench.edit(f"replicate {number} {seed}")
+            self.bench.replications[number] = seed
+            self.note(f"replicate {number} {seed}")
 
     def edit(self, line: str) -> str:
         """Makes an edit; what it replaced, in words. A `Refused` or a `Problem` says why it was not made."""
@@ -252,7 +267,7 @@ class KeptModel:
 
     def pin(self) -> None:
         """Takes the model as it is for the baseline."""
-        self.base_texts, self.known_baseline = self.texts(), None
+        self.base_texts, self.known_baseline, self.pinned = self.texts(), None, self.bench.version
 
     def baseline(self, start: int, each: Callable[[int], None] | None = None) -> Reports:
         """The reports of the baseline over the replications that there are now, by a session of its own."""

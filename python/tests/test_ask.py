@@ -58,6 +58,7 @@ class Prompts(InFolder):
         kept = KeptModel(path, journal=journal)
         kept.edit("change @Serve ADVANCE 140,40")
         kept.bench.session.process.kill()
+        kept.bench.close()
         self.assertEqual(self.read("desk.edits"), b"change 5 SERVE ADVANCE 140,40\n")
         with open(journal, "a") as file:
             file.write("change 5 ADV")  # the disk was full: nobody was shown this one

@@ -1,0 +1,469 @@
+"""A model that is kept open, in a browser.
+
+    tools/workbench MODEL [--port 8080] [--replications 8] [--seed S] [--start K]
+
+It prints an address with a token, and serves it to this machine alone. On the left stand the statements of the model, with
+the counts of their blocks; a click or Enter edits a line, `i` inserts before it, `a` after it, Delete deletes it. On the
+right stand the figures over all replications, what differs from the baseline with its half-width, the report of a
+replication, histograms, and the script so far. `u` undoes, `r` makes again, `p` pins the baseline, `?` shows the keys.
+
+Each edit that is accepted is in MODEL.edits before it is shown, so that nothing is lost: a program that dies, a browser
+that is closed and a workbench that is started anew go on from there. Files are read and written in the model's folder
+alone. Several tabs see each other's edits; a tab that is not up to date is told so. Ctrl-C ends it.
+
+It wants Tornado; python/install installs it."""
+import hmac
+import json
+import os
+import re
+import secrets
+import time
+import traceback
+from concurrent.futures import ThreadPoolExecutor
+
+from . import codes, script
+from .bench import NoReport, Refused, Report, Reports
+from .command import Problem, Words, with_packages
+from .kept_model import KeptModel, compare, figures
+from .program import Ended
+from .stats import Estimate, fixed
+
+HERE = os.path.join(os.path.dirname(os.path.abspath(__file__)), "browser")
+NAME = re.compile(r"[A-Za-z0-9][A-Za-z0-9_.-]{0,99}")
+FILES = {"": ("index.html", "text/html"), "app.js": ("app.js", "text/javascript"), "app.css": ("app.css", "text/css")}
+
+
+def cells(found: Estimate | None) -> list[str]:
+    if found is None:
+        return ["", ""]
+    return [fixed(found.mean), "" if found.half is None else fixed(found.half)]
+
+
+class Desk:
+    """The model that is open, and what is known of it. Its calls are made one at a time, by one thread."""
+
+    def __init__(self, path: str, seed: int, replications: int, start: int | None, tell):
+        self.path, self.seed, self.replications, self.asked_start = os.path.abspath(path), seed, replications, start
+        self.folder = os.path.dirname(self.path)
+        self.tell = tell
+        self.kept: KeptModel | None = None
+        self.fault: dict | None = None
+        self.reports: Reports | None = None
+        self.gives_up = False
+        self.since, self.done = 0.0, 0
+        self.open()
+
+    # ---- opening
+
+    def open(self) -> None:
+        """Opens the model's file with the edits that were made, or keeps why it is refused."""
+        self.close()
+        self.fault = self.reports = None
+        try:
+            self.kept = KeptModel(self.path, self.seed, self.replications, self.path + ".edits")
+        except Refused as why:
+            self.refused_model(why, self.text())
+        except Problem as why:
+            self.fault = {"text": self.text(), "code": "", "sentence": f"{self.path}.edits: {why}", "line": 0}
+
+    def text(self) -> str:
+        with open(self.path, encoding="latin-1", newline="") as file:
+            return file.read().replace("\r\n", "\n")
+
+    def refused_model(self, why: Refused, text: str) -> None:
+        line = re.match(r"line (\d+)", why.code)
+        self.fault = {"text": text, "code": why.code, "sentence": why.sentence, "line": int(line[1]) if line else 0}
+
+    def close(self) -> None:
+        if self.kept:
+            self.kept.bench.close()
+            self.kept = None
+
+    def start(self) -> int:
+        starts = self.kept.starts()
+        if not starts:
+            raise Problem("the model has no START: insert one at the end, as START 100")
+        return min(self.asked_start or starts, starts)
+
+    # ---- what a tab is shown
+
+    def state(self) -> dict:
+        """All that a tab shows, but for what reports say."""
+        files = sorted(name for name in os.listdir(self.folder) if name.endswith(".gps") and NAME.fullmatch(name))
+        found = {"kind": "state", "file": os.path.basename(self.path), "files": files, "fault": self.fault}
+        if self.kept is None:
+            return {**found, "version": -1, "statements": []}
+        counts = self.counts()
+        rows, position = [], 0
+        for it, differs in zip(self.kept.statements, self.kept.changed()):
+            words = it.text.split("|")[0].split(" ")
+            verb = words[0] if words[0] in codes.statements.VERBS else words[1]
+            is_block = verb in codes.statements.BLOCKS
+            position += is_block
+            comment = " ".join(line.partition(";")[2].strip() for line in it.source[:1] if ";" in line)
+            rows.append({
+                "text": it.text, "verb": verb, "changed": differs, "comment": comment, "front": [line.strip() for line in it.front],
+                "counts": counts.get(str(position)) if is_block else None,
+            })
+        return {
+            **found, "version": self.kept.bench.version, "statements": rows, "names": self.kept.names_of(),
+            "verbs": codes.statements.VERBS, "script": self.kept.bench.script, "replications": self.kept.bench.replications,
+            "undo": bool(self.kept.done and self.kept.done[-1][1]), "redo": bool(self.kept.undone),
+        }
+
+    def counts(self) -> dict[str, list[str]]:
+        """Of each block the entries and the current count, means over the replications."""
+        sums: dict[str, list[int]] = {}
+        for report in self.reports or []:
+            for row in report.kinds["block"]:
+                own = sums.setdefault(row["LOC"], [0, 0])
+                own[0] += int(row["ENTRY COUNT"])
+                own[1] += int(row["CURRENT COUNT"])
+        count = len(self.reports or []) or 1
+        return {place: [fixed(entries / count, 1), fixed(now / count, 1)] for place, (entries, now) in sums.items()}
+
+    def shown(self) -> dict:
+        """The figures over all replications, and what differs from the baseline."""
+        baseline = self.kept.baseline(self.start(), self.progress)
+        rows = []
+        for it in compare(baseline, self.reports, True):
+            if it.now is None and it.before is None:
+                continue
+            changes = it.change is not None and (it.change.mean != 0 or it.change.least != it.change.greatest)
+            bounds = ["", ""] if it.now is None else [fixed(it.now.least), fixed(it.now.greatest)]
+            rows.append({
+                "kind": it.kind, "entity": it.entity, "column": it.column, "now": cells(it.now), "bounds": bounds,
+                "n": it.now.n if it.now else 0, "of": len(self.reports), "before": cells(it.before)[0],
+                "change": cells(it.change) if changes else ["", ""], "apart": it.is_apart,
+                "main": (it.kind, it.column) in {(str(one.kind), one.column) for one, _ in figures(self.reports)},
+            })
+        missing = [f"replication {number}: {why}, {codes.meaning(why)[0]}" for number, why in self.reports.missing.items()]
+        outcomes = [f"replication {it.replication}: {it.outcome}" for it in self.reports if it.outcome != "COMPLETE"]
+        return {
+            "kind": "figures", "rows": rows, "missing": missing + outcomes, "start": self.start(), "classes": self.classes(),
+            "baseline": "the model as it was opened" if self.kept.pinned is None else f"version {self.kept.pinned}",
+        }
+
+    def classes(self) -> dict[str, list]:
+        """The classes of each table, over all replications."""
+        found: dict[str, dict[tuple, int]] = {}
+        for report in self.reports:
+            for row in report.kinds.get("class", []):
+                own = found.setdefault(row["TABLE"], {})
+                limits = row["ABOVE"], row["TO"]
+                own[limits] = own.get(limits, 0) + int(row["FREQUENCY"])
+        return {name: [[above, to, count] for (above, to), count in own.items()] for name, own in found.items()}
+
+    def progress(self, done: int) -> None:
+        self.done = done
+
+    # ---- what a tab asks
+
+    def simulate(self) -> None:
+        """Makes the reports of all replications, and tells what they say."""
+        if self.kept is None:
+            return
+        self.since, self.done = time.monotonic(), 0
+        try:
+            kept = self.kept.kept_steps(self.start())
+            self.reports = self.kept.reports(self.start(), self.progress)
+            shown = self.shown()
+            fresh = [it for it in kept if it is not None]
+            went_on = [steps for steps in fresh if steps]
+            shown["cost"] = "nothing had to be simulated" if not fresh else "no step was kept" if not went_on else (
+                f"{sum(went_on):,} steps were kept, in {len(went_on)} of {len(fresh)} replications that were simulated"
+            )
+            shown["seconds"] = round(time.monotonic() - self.since, 2)
+            self.tell(self.state())
+            self.tell(shown)
+        except NoReport as why:
+            self.reports = None
+            self.tell(self.state())
+            self.tell({"kind": "figures", "rows": [], "missing": [str(why)], "classes": {}, "start": self.start()})
+        finally:
+            self.since = 0.0
+
+    def ask(self, asked: dict) -> None:
+        """Does what a tab asks; what is wrong with it is told."""
+        try:
+            self.answer(asked)
+        except Exception:
+            traceback.print_exc()
+            raise
+
+    def answer(self, asked: dict) -> None:
+        try:
+            self.do(asked)
+        except Refused as why:
+            self.tell({"kind": "refused", "code": why.code, "sentence": why.sentence, "line": str(asked.get("line", ""))})
+        except (Problem, OSError) as why:
+            self.tell({"kind": "refused", "code": "", "sentence": str(why), "line": str(asked.get("line", ""))})
+        except NoReport as why:
+            self.tell({"kind": "refused", "code": why.answer, "sentence": why.sentence, "line": ""})
+        except Ended as why:
+            self.again(why)
+
+    def again(self, why: Ended) -> None:
+        """The program is gone: begins anew from the edits on the disk."""
+        given_up, self.gives_up = self.gives_up, False
+        self.since = 0.0
+        texts, pinned = self.kept.base_texts, self.kept.pinned
+        self.open()
+        if self.kept and pinned is not None:
+            self.kept.base_texts, self.kept.pinned = texts, pinned
+        self.tell(self.state())
+        what = "the run was given up" if given_up else f"the program ended ({why}) and was started anew"
+        self.tell({"kind": "said", "text": f"{what}; no edit is lost"})
+        if not given_up:
+            try:
+                self.simulate()
+            except Ended as again:
+                self.tell({"kind": "said", "text": f"the program ended again: {again}"})
+
+    def do(self, asked: dict) -> None:
+        word = asked.get("do")
+        if word == "look":
+            self.tell(self.state())
+            if self.kept and self.reports is None:
+                self.simulate()
+            elif self.kept:
+                self.tell(self.shown())
+        elif word == "text":
+            self.write_text(str(asked.get("text", "")))
+        elif word == "open":
+            self.path = self.in_folder(str(asked.get("name", "")), ".gps", True)
+            self.open()
+            self.tell(self.state())
+            self.simulate()
+        elif self.kept is None:
+            raise Problem("the model is refused: mend its text first")
+        elif word in ("edit", "undo", "redo"):
+            self.edit(word, asked)
+        elif word == "count":
+            count = asked.get("count")
+            if not isinstance(count, int) or not len(self.kept.bench.replications) <= count <= 32:
+                raise Problem("replications are added, up to 32; `Undo` and `drop` take them away")
+            self.kept.add_replications(count)
+            self.reports = None
+            self.tell(self.state())
+            self.simulate()
+        elif word == "pin":
+            self.kept.pin()
+            self.tell(self.state())
+            self.simulate()
+        elif word == "report":
+            self.report(asked)
+        elif word == "save":
+            path = self.in_folder(str(asked.get("name", "")), ".gps", False)
+            self.save(path, self.kept.model_text())
+        elif word == "plan":
+            path = self.in_folder(str(asked.get("name", "")), ".toml", False)
+            self.save(path, self.plan())
+        else:
+            raise Problem(f"nothing is called {word}")
+
+    def edit(self, word: str, asked: dict) -> None:
+        if asked.get("seen") != self.kept.bench.version:
+            self.tell(self.state())
+            raise Problem("another tab has edited the model: look at it as it is now, and try again")
+        if word == "edit":
+            line = str(asked.get("line", "")).strip()
+            if line.split(" ")[0] not in script.EDITS or "\n" in line:
+                raise Problem(f"an edit begins with one of {', '.join(script.EDITS)}")
+            if not line.isascii():
+                raise Problem("a statement has plain letters, digits and signs")
+            said = self.kept.edit(line)
+        else:
+            said = self.kept.undo() if word == "undo" else self.kept.redo()
+        self.reports = None
+        self.tell(self.state())
+        self.tell({"kind": "said", "text": said})
+        self.simulate()
+
+    def report(self, asked: dict) -> None:
+        replication, start = asked.get("replication", 1), asked.get("start", self.start())
+        if not isinstance(replication, int) or not isinstance(start, int):
+            raise Problem("a report is of a replication and a START")
+        report: Report = self.kept.bench.report(replication, start)
+        self.tell({"kind": "report", "replication": replication, "text": report.text})
+
+    def in_folder(self, name: str, ending: str, is_there: bool) -> str:
+        """The path of a file in the model's folder, and in no other."""
+        if not NAME.fullmatch(name) or not name.endswith(ending):
+            raise Problem(f"`{name}`: a name of letters and digits that ends in {ending} is wanted, and no folder")
+        path = os.path.join(self.folder, name)
+        if os.path.islink(path) or os.path.exists(path) != is_there:
+            raise Problem(f"{name} {'is not there' if is_there else 'is there already: choose another name'}")
+        return path
+
+    def save(self, path: str, text: str) -> None:
+        with open(path, "x", encoding="latin-1", newline="") as file:
+            file.write(text)
+        self.tell(self.state())
+        self.tell({"kind": "said", "text": f"{os.path.basename(path)} is written"})
+
+    def plan(self) -> str:
+        """The edits so far as a plan of a study."""
+        edits = [line for line in self.kept.bench.script if line.split()[0] in ("change", "insert", "delete", "capacity")]
+        listed = "".join(f"    {json.dumps(line)},\n" for line in edits)
+        alternative = f"\n[alternatives.edited]\nedits = [\n{listed}]\n" if edits else ""
+        measures = "".join(
+            f'{it.kind}_{it.entity.lower()} = "{it}"\n' for it, _ in figures(self.reports or []) if it.column in ("AVE.TIME", "UTIL.", "MEAN")
+        ) or 'end = "head END TIME"\n'
+        return f'model = "{os.path.basename(self.path)}"\nstart = {self.start()}\nreplications = 100\n{alternative}\n[measures]\n{measures}'
+
+    def write_text(self, text: str) -> None:
+        """A model that was refused, mended: it is written once the program takes it."""
+        try:
+            KeptModel(self.path, self.seed, 1, text=text).bench.close()
+        except Refused as why:
+            self.refused_model(why, text)
+            self.tell(self.state())
+            raise
+        with open(self.path + ".new", "w", encoding="latin-1", newline="") as file:
+            file.write(text)
+        os.replace(self.path + ".new", self.path)
+        if os.path.exists(self.path + ".edits"):
+            os.replace(self.path + ".edits", self.path + ".edits.old")
+        self.open()
+        self.tell(self.state())
+        self.simulate()
+
+    def give_up(self) -> None:
+        """Ends the program that simulates; called from beside."""
+        if self.since and self.kept:
+            self.gives_up = True
+            self.kept.bench.session.process.kill()
+
+
+def application(desk_of, token: str, hosts: set[str]):
+    """The pages and the websocket, for who has the token and asks from this machine."""
+    from tornado import web, websocket
+    from tornado.ioloop import IOLoop
+
+    loop, worker = IOLoop.current(), ThreadPoolExecutor(1)
+    tabs: set = set()
+
+    def tell(message: dict) -> None:
+        text = json.dumps(message)
+        loop.add_callback(lambda: [tab.write_message(text) for tab in list(tabs) if not tab.closing])
+
+    desk = desk_of(tell)
+    policy = (
+        f"default-src 'none'; script-src 'self'; style-src 'self'; connect-src {' '.join(f'ws://{it}' for it in sorted(hosts))};"
+        " img-src data:; base-uri 'none'; form-action 'none'; frame-ancestors 'none'"
+    )
+
+    def may(handler, given: str) -> None:
+        origin = handler.request.headers.get("Origin")
+        if handler.request.host not in hosts or origin is not None and origin.removeprefix("http://") not in hosts:
+            raise web.HTTPError(403)
+        if not hmac.compare_digest(given.encode(), token.encode()):
+            raise web.HTTPError(403)
+
+    class Page(web.RequestHandler):
+        def set_default_headers(self):
+            self.set_header("Content-Security-Policy", policy)
+            self.set_header("Referrer-Policy", "no-referrer")
+            self.set_header("X-Content-Type-Options", "nosniff")
+            self.set_header("Cache-Control", "no-store")
+            self.clear_header("Server")
+
+        def get(self, given, name):
+            may(self, given)
+            if name not in FILES:
+                raise web.HTTPError(404)
+            file, kind = FILES[name]
+            with open(os.path.join(HERE, file), "rb") as content:
+                self.set_header("Content-Type", kind + "; charset=utf-8")
+                self.finish(content.read())
+
+        def write_error(self, status, **_):
+            self.finish(f"{status}\n")
+
+    class Tab(websocket.WebSocketHandler):
+        closing = False
+
+        def check_origin(self, origin):
+            return origin.removeprefix("http://") in hosts
+
+        def prepare(self):
+            may(self, self.path_args[0])
+
+        def open(self, given):
+            tabs.add(self)
+            worker.submit(desk.ask, {"do": "look"})
+
+        def on_message(self, text):
+            try:
+                asked = json.loads(text)
+            except ValueError:
+                return
+            if not isinstance(asked, dict):
+                return
+            if asked.get("do") == "give up":
+                desk.give_up()
+            else:
+                worker.submit(desk.ask, asked)
+
+        def on_close(self):
+            self.closing = True
+            tabs.discard(self)
+
+        def write_error(self, status, **_):
+            self.finish(f"{status}\n")
+
+    def pulse() -> None:
+        if desk.since:
+            seconds = time.monotonic() - desk.since
+            if seconds > 0.15:
+                of = len(desk.kept.bench.replications) if desk.kept else 0
+                tell({"kind": "busy", "done": desk.done, "of": of, "seconds": round(seconds, 1)})
+
+    return web.Application([(r"/([^/]+)/ws", Tab), (r"/([^/]+)/([a-z.]*)", Page)]), desk, pulse
+
+
+def main(words: list[str]) -> int:
+    read = Words(words, "--port --replications --seed --start")
+    if len(read.rest) != 1:
+        raise Problem("a MODEL is wanted; --help shows how")
+    with open(read.rest[0], "rb"):
+        pass
+    port = read.number("--port", 8080, 1, 65535)
+    seed = read.number("--seed", 1945846388, 1, 2147483646)
+    count, start = read.number("--replications", 8, 1, 32), read.number("--start", None, 1, 10**9)
+    with_packages("tornado")
+    import asyncio
+    import logging
+
+    from tornado.ioloop import PeriodicCallback
+
+    logging.getLogger("tornado.access").setLevel(logging.ERROR)
+
+    async def serve() -> None:
+        token = secrets.token_urlsafe(24)
+        hosts = {f"127.0.0.1:{port}", f"localhost:{port}"}
+        desk_of = lambda tell: Desk(read.rest[0], seed, count, start, tell)
+        app, desk, pulse = application(desk_of, token, hosts)
+        try:
+            server = app.listen(port, address="127.0.0.1")
+        except OSError as why:
+            desk.close()
+            raise Problem(f"port {port}: {why.strerror}; --port takes another one") from None
+        if desk.kept and desk.kept.replayed:
+            print(f"{desk.kept.replayed} edits of {desk.path}.edits were made again", flush=True)
+        print(f"http://127.0.0.1:{port}/{token}/", flush=True)
+        PeriodicCallback(pulse, 250).start()
+        try:
+            await asyncio.Event().wait()
+        finally:
+            server.stop()
+            desk.close()
+
+    try:
+        asyncio.run(serve())
+    except KeyboardInterrupt:
+        print()
+    return 0
+
+

@@ -1,0 +1,293 @@
+"""The workbench in a browser: edits, refusals, two tabs, a program that dies, and who may come in."""
+import http.client
+import os
+import shutil
+import signal
+import socket
+import subprocess
+import time
+import unittest
+import urllib.parse
+
+from common import ROOT, InFolder, tool
+from gpssbench.command import SYSTEM, has
+
+# What the browser is asked, run by the Python that has Selenium.
+BROWSE = """
+import json, os, signal, subprocess, sys, time
+from selenium import webdriver
+from selenium.common.exceptions import StaleElementReferenceException
+from selenium.webdriver.common.by import By
+from selenium.webdriver.common.keys import Keys
+
+address, folder, server = sys.argv[1], sys.argv[2], int(sys.argv[3])
+options = webdriver.ChromeOptions()
+for word in ("--headless=new", "--no-sandbox", "--disable-gpu", "--disable-dev-shm-usage"):
+    options.add_argument(word)
+options.set_capability("goog:loggingPrefs", {"browser": "ALL"})
+driver = webdriver.Chrome(options=options)
+find = lambda what: driver.find_element(By.CSS_SELECTOR, what)
+text = lambda what: find(what).text
+
+
+def until(holds, what, seconds=20):
+    ends = time.monotonic() + seconds
+    while time.monotonic() < ends:
+        try:
+            if holds():
+                return
+        except Exception:
+            pass
+        time.sleep(0.02)
+    raise AssertionError(f"{what}: {text('body')}")
+
+
+def again(act):
+    # a page that is shown anew meanwhile is tried again
+    for _ in range(50):
+        try:
+            return act()
+        except StaleElementReferenceException:
+            time.sleep(0.05)
+    raise AssertionError("the page does not come to rest")
+
+
+def press(key):
+    # a key for the page, wherever the focus is
+    webdriver.ActionChains(driver).send_keys(key).perform()
+
+
+def journal():
+    with open(os.path.join(folder, "ward.gps.edits")) as file:
+        return file.read().strip().split("\\n")[7:]
+
+
+def change(place, words):
+    again(lambda: driver.find_elements(By.CSS_SELECTOR, "#model td.statement")[place - 1].click())
+    given = find("#model input")
+    given.clear()
+    given.send_keys(words, Keys.ENTER)
+
+
+def size(width, dark):
+    size = {"width": width, "height": 1000, "deviceScaleFactor": 1, "mobile": False}
+    driver.execute_cdp_cmd("Emulation.setDeviceMetricsOverride", size)
+    scheme = [{"name": "prefers-color-scheme", "value": "dark" if dark else "light"}]
+    driver.execute_cdp_cmd("Emulation.setEmulatedMedia", {"features": scheme})
+
+
+try:
+    size(1280, False)
+    driver.get(address)
+    until(lambda: "storage BEDS UTIL." in text("#table"), "open")
+    assert len(driver.find_elements(By.CSS_SELECTOR, "#model tbody tr")) == 17
+    assert "a stay" in text("#model"), "comments of the file"
+
+    # an edit: its difference, with the interval that is worked out over the eight replications
+    change(1, "Beds STORAGE 11")
+    until(lambda: "without 0" in text("#table"), "differences")
+    row = next(it for it in text("#table").split("\\n") if it.startswith("queue WAITING AVE.TIME"))
+    assert row.split()[3:] == ["8", "0.206", "0.228", "1.734", "-1.528", "0.865", "without", "0"], row
+    assert journal() == ["change 1 Beds STORAGE 11"], journal()
+    until(lambda: "BEDS STORAGE 10 -> BEDS STORAGE 11" in text("#said"), "what was replaced")
+    assert find("#model tr.changed").text.startswith("1"), "what differs is marked"
+
+    # a refusal stands beside its statement, and changes nothing
+    change(7, "ADVANCE 1.5")
+    until(lambda: "no decimals" in text("#model .refusal"), "refusal")
+    find("#model input").send_keys(Keys.ESCAPE)
+    assert len(journal()) == 1 and not driver.find_elements(By.CSS_SELECTOR, ".refusal")
+    change(7, "<script>alert(1)</script> ADVANCE 5")
+    until(lambda: "&lt;script" in find("#model .refusal").get_attribute("innerHTML").lower(), "a label that is HTML")
+    find("#model input").send_keys(Keys.ESCAPE)
+
+    # the keyboard alone: down to a statement, a line after it, undo, redo
+    first = lambda: driver.find_elements(By.CSS_SELECTOR, "#model td.statement")[0]
+    again(lambda: first().send_keys(Keys.ARROW_DOWN, Keys.ARROW_DOWN, "a"))
+    find("#model input").send_keys("QUEUE All", Keys.ENTER)
+    until(lambda: "4: inserted QUEUE ALL" in text("#said"), "an insert")
+    until(lambda: "queue ALL" in text("#table"), "its figures")
+    press("u")
+    until(lambda: "4: deleted QUEUE ALL" in text("#said"), "undo")
+    press("r")
+    until(lambda: "queue ALL" in text("#table"), "redo")
+    press("u")
+    until(lambda: "queue ALL" not in text("#table"), "undo again")
+    find("#pin").click()
+    until(lambda: "Differences are to version" in text("#about"), "a baseline")
+    until(lambda: not driver.find_elements(By.CSS_SELECTOR, "#model tr.changed"), "nothing differs from it")
+
+    # the report is the program's, byte for byte
+    find("#tab-report").click()
+    until(lambda: text("#bytes").startswith("REPLICATION 1 SEED 1945846388"), "a report")
+    script = "\\n".join(open(os.path.join(folder, "ward.gps.edits")).read().strip().split("\\n") + ["report 1 1", ""])
+    ran = subprocess.run([os.environ["GPSSBENCH"], os.path.join(folder, "ward.gps"), "--seed", "1945846388"],
+                         input=script.encode(), capture_output=True).stdout.decode()
+    told = driver.execute_script("return document.getElementById('bytes').textContent")
+    assert ran.endswith(told) and len(told) > 900, told
+    find("#tab-figures").click()
+
+    # two tabs: what one edits, the other shows; one that is behind is told
+    first = driver.current_window_handle
+    driver.switch_to.new_window("tab")
+    driver.get(address)
+    until(lambda: "BEDS STORAGE 11" in text("#model"), "a second tab")
+    change(17, "START 60")
+    until(lambda: "START 60" in text("#model") and "replications" in text("#about") or "kept" in text("#about"), "an edit there")
+    driver.switch_to.window(first)
+    until(lambda: "START 60" in text("#model"), "the first tab shows it")
+    stale = {"do": "edit", "line": "delete 1", "seen": 0}
+    answer = driver.execute_async_script('''
+        const [stale, done] = arguments, told = [];
+        const socket = new WebSocket(new URL("ws", location.href.replace(/^http/, "ws")));
+        socket.onopen = () => socket.send(JSON.stringify(stale));
+        socket.onmessage = (event) => { const it = JSON.parse(event.data); if (it.kind === "refused") done(it.sentence); };
+    ''', stale)
+    assert "another tab has edited" in answer, answer
+
+    # a program that is killed: nothing is lost
+    children = subprocess.run(["pgrep", "-P", str(server)], capture_output=True, text=True).stdout.split()
+    before, row = journal(), lambda: next(it for it in text("#table").split("\\n") if it.startswith("storage BEDS UTIL."))
+    figures = row()
+    for child in children:
+        os.kill(int(child), signal.SIGKILL)
+    change(7, "ADVANCE 150,49")
+    until(lambda: "no edit is lost" in text("#said"), "a program that died")
+    press(Keys.ESCAPE)
+    until(lambda: row() == figures, "the same figures as before")
+    assert journal() == before, journal()
+
+    for width in (1280, 400):
+        for dark in (False, True):
+            size(width, dark)
+            time.sleep(0.2)
+            wide = driver.execute_script("return document.documentElement.scrollWidth")
+            assert wide <= width, f"{wide} of {width}"
+            driver.save_screenshot(f"{folder}/{width}-{'dark' if dark else 'light'}.png")
+    size(1280, False)
+
+    # files stay in the folder
+    for name, says in (("../out.gps", "no folder"), ("ward.gps", "is there already"), ("saved.gps", "saved.gps is written")):
+        find("#name").clear()
+        find("#name").send_keys(name)
+        find("#save").click()
+        until(lambda: says in text("header"), name)
+    saved = open(os.path.join(folder, "saved.gps")).read()
+    assert "a stay" in saved and "STORAGE  11" in saved and "START    60" in saved, saved
+    find("#tab-script").click()
+    find("#plan-name").send_keys("plan.toml")
+    find("#plan").click()
+    until(lambda: os.path.exists(os.path.join(folder, "plan.toml")), "a plan")
+
+    # a model that is refused is shown with its line, and can be mended
+    driver.execute_script("const it = document.getElementById('files'); it.value = 'bad.gps'; it.dispatchEvent(new Event('change'))")
+    until(lambda: "no verb is called ADVANSE; ADVANCE?" in text("#wrong"), "a refused model")
+    find("#text").clear()
+    find("#text").send_keys("GENERATE 10\\nADVANCE 3\\nTERMINATE 1\\nSTART 5\\n")
+    find("#mend button").click()
+    until(lambda: "ADVANCE 3" in text("#model") and not text("#wrong"), "mended")
+    find("#tab-figures").click()
+    until(lambda: "START 1" in text("#about"), "its figures")
+
+    driver.get(address.rsplit("/", 2)[0] + "/wrong/")
+    assert "403" in text("body"), "a wrong token"
+    told = [it["message"] for it in driver.get_log("browser") if it["level"] == "SEVERE" and "403" not in it["message"]]
+    assert not told, told
+finally:
+    driver.quit()
+print("seen")
+"""
+
+
+class Workbench(InFolder):
+    def setUp(self):
+        super().setUp()
+        if not has("tornado") and not has("tornado", SYSTEM):
+            self.skipTest("no package tornado: tools/workbench")
+        for name in ("ward.gps", "clinic.gps"):
+            shutil.copy(os.path.join(ROOT, "examples", name), self.folder)
+        self.write("bad.gps", "GENERATE 10\nADVANSE 3\nTERMINATE 1\nSTART 5\n")
+        with socket.socket() as free:
+            free.bind(("127.0.0.1", 0))
+            self.port = free.getsockname()[1]
+
+    def serve(self, name="ward.gps"):
+        command = [os.path.join(ROOT, "tools", "workbench"), self.path(name), "--port", str(self.port)]
+        server = subprocess.Popen(command, stdout=subprocess.PIPE, stderr=subprocess.PIPE, text=True)
+
+        def stop():
+            server.send_signal(signal.SIGINT)
+            try:
+                server.communicate(timeout=10)
+            except subprocess.TimeoutExpired:
+                server.kill()
+                server.communicate()
+
+        self.addCleanup(stop)
+        line = server.stdout.readline()
+        if "edits of" in line:
+            line = server.stdout.readline()
+        return server, line.strip()
+
+    def status(self, path, **headers):
+        asked = http.client.HTTPConnection("127.0.0.1", self.port, timeout=10)
+        asked.request("GET", path, headers=headers)
+        answer = asked.getresponse()
+        answer.read()
+        asked.close()
+        return answer
+
+    def test_nobody_else_gets_in(self):
+        _, address = self.serve()
+        path = urllib.parse.urlparse(address).path
+        self.assertGreater(len(path), 30)
+        answer = self.status(path)
+        self.assertEqual(answer.status, 200)
+        policy = answer.headers["Content-Security-Policy"]
+        self.assertTrue("default-src 'none'" in policy and "unsafe" not in policy and "frame-ancestors 'none'" in policy)
+        self.assertEqual(self.status("/").status, 404)
+        self.assertEqual(self.status("/wrong/").status, 403)
+        self.assertEqual(self.status(path + "app.js").status, 200)
+        self.assertEqual(self.status(path + "..").status, 404)
+        self.assertEqual(self.status(path, Host="evil.example").status, 403)
+        self.assertEqual(self.status(path, Origin="http://evil.example").status, 403)
+        upgrade = {"Upgrade": "websocket", "Connection": "Upgrade", "Sec-WebSocket-Version": "13",
+                   "Sec-WebSocket-Key": "dGhlIHNhbXBsZSBub25jZQ=="}
+        self.assertEqual(self.status(path + "ws", Origin="http://evil.example", **upgrade).status, 403)
+        self.assertEqual(self.status("/wrong/ws", Origin=f"http://127.0.0.1:{self.port}", **upgrade).status, 403)
+        self.assertEqual(self.status(path + "ws", Origin=f"http://127.0.0.1:{self.port}", **upgrade).status, 101)
+        # this machine alone
+        listening = subprocess.run(["cat", "/proc/net/tcp"], capture_output=True, text=True).stdout
+        self.assertIn(f"0100007F:{self.port:04X} 00000000:0000 0A", listening)
+        self.assertNotIn(f"00000000:{self.port:04X} 00000000:0000 0A", listening)
+
+    def test_bad_input_is_one_line(self):
+        self.serve()
+        for words, part in ((["ward.gps", "--port", str(self.port)], b"--port takes another one"), (["none.gps"], b"No such file"),
+                            (["ward.gps", "--port", "0"], b"--port 0"), ([], b"a MODEL is wanted")):
+            ran = tool("workbench", *words, cwd=self.folder)
+            self.assertEqual((ran.returncode, ran.stderr.count(b"\n"), part in ran.stderr), (2, 1, True), ran.stderr)
+
+    def test_in_a_browser(self):
+        if not (shutil.which("chromium") and shutil.which("chromedriver") and has("selenium", SYSTEM)):
+            self.skipTest("no chromium, chromedriver or selenium: the workbench in a browser")
+        server, address = self.serve()
+        words = [SYSTEM, "-c", BROWSE, address, self.folder, str(server.pid)]
+        ran = subprocess.run(words, capture_output=True, timeout=110)
+        self.assertEqual((ran.returncode, ran.stdout), (0, b"seen\n"), ran.stderr.decode()[-3500:])
+        if pictures := os.environ.get("GPSSBENCH_PICTURES"):
+            for name in os.listdir(self.folder):
+                if name.endswith(".png"):
+                    shutil.copy(self.path(name), os.path.join(pictures, "workbench-" + name))
+
+    def test_it_goes_on_where_it_ended(self):
+        self.write("ward.gps.edits", "replicate 2 1553200962\ncapacity Beds 11\n")
+        server, address = self.serve()
+        self.assertTrue(address.startswith("http://127.0.0.1:"))
+        time.sleep(0.2)
+        with open(self.path("ward.gps.edits")) as file:
+            self.assertEqual(file.read().split("\n")[:3], ["replicate 2 1553200962", "capacity Beds 11", "replicate 3 1474719581"])
+
+
+if __name__ == "__main__":
+    unittest.main()
