@@ -199,6 +199,56 @@ print("seen")
 """
 
 
+# The same by its websocket alone: how fast an edit is answered, progress, and a run that is given up.
+LISTEN = """
+import asyncio, json, sys, time
+from tornado.websocket import websocket_connect
+
+address, long = sys.argv[1].replace("http", "ws") + "ws", sys.argv[2]
+
+
+async def main():
+    socket = await websocket_connect(address)
+
+    async def until(kind, seconds=60):
+        told = []
+        while True:
+            it = json.loads(await asyncio.wait_for(socket.read_message(), seconds))
+            told.append((time.monotonic(), it))
+            if it["kind"] == kind:
+                return told
+
+    state = (await until("state"))[-1][1]
+    await until("figures")
+    took = []
+    for version, half in enumerate((49, 50, 49), state["version"]):
+        began = time.monotonic()
+        await socket.write_message(json.dumps({"do": "edit", "line": f"change 7 ADVANCE 150,{half}", "seen": version}))
+        await until("figures")
+        took.append(time.monotonic() - began)
+    print(f"an edit is answered within {min(took):.2f} s")
+    await socket.write_message(json.dumps({"do": "open", "name": long}))
+    told = [at for at, it in await until("figures", 100) if it["kind"] == "busy"]
+    gaps = [after - before for before, after in zip(told, told[1:])]
+    assert len(told) > 2 and sorted(gaps)[len(gaps) // 2] <= 0.5, gaps
+    await socket.write_message(json.dumps({"do": "edit", "line": "change 2 ADVANCE 31", "seen": 7}))
+    await until("busy")
+    await socket.write_message(json.dumps({"do": "give up"}))
+    said = (await until("said"))[-1][1]
+    while "given up" not in said["text"]:
+        said = (await until("said"))[-1][1]
+    assert "no edit is lost" in said["text"], said
+    await socket.write_message(json.dumps({"do": "look"}))
+    state = (await until("state"))[-1][1]
+    assert state["statements"][1]["text"] == "ADVANCE 31", state["statements"][1]
+    await socket.write_message(json.dumps({"do": "give up"}))
+
+
+asyncio.run(main())
+print("heard")
+"""
+
+
 class Workbench(InFolder):
     def setUp(self):
         super().setUp()
@@ -279,6 +329,16 @@ class Workbench(InFolder):
             for name in os.listdir(self.folder):
                 if name.endswith(".png"):
                     shutil.copy(self.path(name), os.path.join(pictures, "workbench-" + name))
+
+    def test_progress_and_a_run_that_is_given_up(self):
+        # some 950,000 steps in each of eight replications
+        self.write("long.gps", "GENERATE 10\nADVANCE 30\nTERMINATE 1\nSTART 135000\n")
+        _, address = self.serve()
+        python = SYSTEM if has("tornado", SYSTEM) else "python3"
+        ran = subprocess.run([python, "-c", LISTEN, address, "long.gps"], capture_output=True, timeout=110)
+        self.assertEqual((ran.returncode, ran.stdout.decode().split("\n")[-2:]), (0, ["heard", ""]), ran.stderr.decode())
+        if os.environ.get("GPSSBENCH_PICTURES"):
+            print(ran.stdout.decode().split("\n")[0])
 
     def test_it_goes_on_where_it_ended(self):
         self.write("ward.gps.edits", "replicate 2 1553200962\ncapacity Beds 11\n")
