@@ -1,13 +1,14 @@
 """A model that is kept open, in a browser.
 
-    tools/workbench MODEL [--port 8080] [--replications 8] [--seed S] [--start K]
+    tools/workbench MODEL [SCRIPT] [--port 8080] [--replications 8] [--seed S] [--start K]
 
 It prints an address with a token, and serves it to this machine alone. On the left stand the statements of the model, with
 the counts of their blocks; a click or Enter edits a line, `i` inserts before it, `a` after it, Delete deletes it. On the
 right stand the figures over all replications, what differs from the baseline with its half-width, the report of a
 replication, histograms, and the script so far. `u` undoes, `r` makes again, `p` pins the baseline, `?` shows the keys.
 
-Each edit that is accepted is in MODEL.edits before it is shown, so that nothing is lost: a program that dies, a browser
+The edits of SCRIPT are made first, where MODEL has none of its own yet; it may name places by label. Each edit that is
+accepted is in MODEL.edits before it is shown, so that nothing is lost: a program that dies, a browser
 that is closed and a workbench that is started anew go on from there. Files are read and written in the model's folder
 alone. Several tabs see each other's edits; a tab that is not up to date is told so. Ctrl-C ends it.
 
@@ -23,7 +24,7 @@ from concurrent.futures import ThreadPoolExecutor
 
 from . import codes, script
 from .bench import NoReport, Refused, Report, Reports
-from .command import Problem, Words, with_packages
+from .command import Problem, Words, lines_of, with_packages
 from .kept_model import KeptModel, compare, figures
 from .program import Ended
 from .stats import Estimate, fixed
@@ -42,7 +43,9 @@ def cells(found: Estimate | None) -> list[str]:
 class Desk:
     """The model that is open, and what is known of it. Its calls are made one at a time, by one thread."""
 
-    def __init__(self, path: str, seed: int, replications: int, start: int | None, tell):
+    def __init__(
+        self, path: str, seed: int, replications: int, start: int | None, tell, lines: list[script.Line] = ()
+    ):
         self.path, self.seed, self.replications, self.asked_start = os.path.abspath(path), seed, replications, start
         self.folder = os.path.dirname(self.path)
         self.tell = tell
@@ -51,7 +54,16 @@ class Desk:
         self.reports: Reports | None = None
         self.gives_up = False
         self.since, self.done = 0.0, 0
+        is_new = not os.path.exists(self.path + ".edits")
         self.open()
+        for line in lines if self.kept and is_new else ():
+            if line.word in script.EDITS:
+                try:
+                    self.kept.edit(line.plain)
+                except (Refused, Problem) as why:
+                    self.close()
+                    os.remove(self.path + ".edits")
+                    raise Problem(f"line {line.number} of the script: {why}") from None
 
     # ---- opening
 
@@ -425,10 +437,11 @@ def application(desk_of, token: str, hosts: set[str]):
 
 def main(words: list[str]) -> int:
     read = Words(words, "--port --replications --seed --start")
-    if len(read.rest) != 1:
+    if len(read.rest) not in (1, 2):
         raise Problem("a MODEL is wanted; --help shows how")
     with open(read.rest[0], "rb"):
         pass
+    lines = script.read(lines_of(read.rest[1])) if len(read.rest) == 2 else []
     port = read.number("--port", 8080, 1, 65535)
     seed = read.number("--seed", 1945846388, 1, 2147483646)
     count, start = read.number("--replications", 8, 1, 32), read.number("--start", None, 1, 10**9)
@@ -443,7 +456,7 @@ def main(words: list[str]) -> int:
     async def serve() -> None:
         token = secrets.token_urlsafe(24)
         hosts = {f"127.0.0.1:{port}", f"localhost:{port}"}
-        desk_of = lambda tell: Desk(read.rest[0], seed, count, start, tell)
+        desk_of = lambda tell: Desk(read.rest[0], seed, count, start, tell, lines)
         app, desk, pulse = application(desk_of, token, hosts)
         try:
             server = app.listen(port, address="127.0.0.1")

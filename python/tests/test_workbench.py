@@ -261,8 +261,8 @@ class Workbench(InFolder):
             free.bind(("127.0.0.1", 0))
             self.port = free.getsockname()[1]
 
-    def serve(self, name="ward.gps"):
-        command = [os.path.join(ROOT, "tools", "workbench"), self.path(name), "--port", str(self.port)]
+    def serve(self, *more):
+        command = [os.path.join(ROOT, "tools", "workbench"), self.path("ward.gps"), *more, "--port", str(self.port)]
         server = subprocess.Popen(command, stdout=subprocess.PIPE, stderr=subprocess.PIPE, text=True)
 
         def stop():
@@ -347,6 +347,13 @@ class Workbench(InFolder):
         time.sleep(0.2)
         with open(self.path("ward.gps.edits")) as file:
             self.assertEqual(file.read().split("\n")[:3], ["replicate 2 1553200962", "capacity Beds 11", "replicate 3 1474719581"])
+
+    def test_the_edits_of_a_script_come_first(self):
+        self.serve(self.write("what.script", "# eleven\nchange @Beds STORAGE 11\nall 1\n"), "--replications", "1")
+        self.assertEqual(self.read("ward.gps.edits"), b"change 1 BEDS STORAGE 11\n")
+        bad = self.write("bad.script", "change @Nowhere STORAGE 11\n")
+        ran = tool("workbench", self.path("clinic.gps"), bad, "--port", str(self.port))
+        self.assertEqual((ran.returncode, ran.stderr.count(b"\n"), b"line 1 of the script" in ran.stderr), (2, 1, True), ran.stderr)
 
 
 if __name__ == "__main__":
