@@ -134,7 +134,13 @@ class Explainer:
             say(said("unfinished N"))
         elif first in ("nostart", "toolong", "noreplication", "memory"):
             say(said(first))
+        seen: set[str] = set()
         for head, text in (part for part in parts if isinstance(part, tuple)):
+            # what several replications have in common is said once
+            outcome = text.split("\n", 1)[0].split(" ", 6)[-1] if text else head
+            if outcome in seen:
+                continue
+            seen.add(outcome)
             if text:
                 self.stopped(text)
             elif head in MEANINGS:
