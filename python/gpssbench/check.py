@@ -245,7 +245,9 @@ def comments(lines: list[str], checker: Checker) -> Iterator[tuple[int, str]]:
             rest = re.sub(r"^[ \t]*\S+", "", rest)
         comment = rest[statements.operand_list(rest)[1] :].strip().upper() if listed else ""
         first = re.split(r"[ \t]", comment)[0]
-        if re.fullmatch(r"[-0-9.,]*[0-9]", comment):
+        forms = [*statements.FORMS[verb].split(), ""][listed.count(",") + 1 :] or [""]
+        takes_number = forms[0].rstrip("!") in ("value", "number", "count", "classes", "some")
+        if takes_number and re.fullmatch(r"[-0-9.,]*[0-9]", comment):
             yield number, f"`{comment}` reads as comment, after the blank: write `{verb} {listed},{comment}`?"
         elif first in blocks and verb in ("TEST", "GATE", "TRANSFER", "SPLIT", "LOOP", "UNLINK") and not any(
             leaf == ("label", first) for it in codes.read([code]) for leaf in it.leaves("label")
