@@ -162,6 +162,21 @@ def bad_operand(code: str, text: str) -> str | None:
     return None
 
 
+def bad_label(text: str) -> str | None:
+    """What is wrong with the label of a statement."""
+    words = re.sub(r"^[0-9]+[ \t]+", "", statements.code_of(text.split("|")[0]).strip()).upper().split()
+    if words and words[0] in statements.DEFINITIONS:
+        return f"a {words[0]} needs its name in front: `Name {' '.join(words)}`."
+    if len(words) > 1 and words[1] in statements.COMMANDS:
+        return f"a {words[1]} has no label: write `{' '.join(words[1:])}`."
+    of_class = re.fullmatch(rf"({'|'.join(statements.CLASSES)})([0-9]*)", words[0]) if words else None
+    if of_class:
+        what = "with a number " if of_class[2] else ""
+        other = f"{of_class[1]}_{of_class[2] or '1'}"
+        return f"{words[0]} is the class of attributes {of_class[1]} {what}and so no name; call it {other}, for instance."
+    return None
+
+
 TRANSFERS = {
     f"TRANSFER {mode}": item
     for item in LEFT_OUT
@@ -182,6 +197,8 @@ def line_fault(code: str, text: str) -> list[str]:
     cure = None
     if code == "L3":
         cure = unknown_verb(text)
+    elif code == "L4":
+        cure = bad_label(text)
     elif code.startswith("L5 ") and place != ["0"]:
         cure = bad_operand(code, text)
     return [line, *said(code, cure)]
