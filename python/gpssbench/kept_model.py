@@ -105,10 +105,11 @@ class KeptModel:
         self.statements, self.tail = of_file(text.rstrip("\n").split("\n"), self.bench.list())
         self.undone: list[str] = []
         self.done: list[tuple[str, str]] = []
-        self.names: dict[str, int] = {}
+        self.named: dict[str, list[str]] = {}
         self.base_texts = [it.text for it in self.statements]
         self.known_baseline: tuple[tuple, Reports] | None = None
-        self.pinned: int | None = None
+        self.opened = list(self.base_texts)
+        self.pinned: str | None = None
         self.journal = journal
         self.replayed = self.replay() if journal and os.path.exists(journal) else 0
         self.add_replications(replications)
@@ -120,15 +121,18 @@ class KeptModel:
         with open(self.journal, encoding="latin-1") as file:
             text = file.read()
         whole, _, _ = text.rpartition("\n")
-        lines = [line for line in whole.split("\n") if line.strip() and not line.startswith("#")]
-        journal, self.journal = self.journal, None
-        for number, line in enumerate(lines, 1):
+        journal, self.journal, count = self.journal, None, 0
+        for number, line in enumerate(whole.split("\n"), 1):
             try:
-                self.edit(line)
+                if line.startswith("# "):
+                    self.named[line[2:]] = self.texts()
+                elif line.strip():
+                    self.edit(line)
+                    count += 1
             except (Refused, Problem) as why:
                 raise Problem(f"{journal}, line {number}, `{line}`: {why}") from None
         self.journal = journal
-        return len(lines)
+        return count
 
     def add_replications(self, count: int) -> None:
         """Adds replications until there are so many, with the recommended seeds; no undo takes them back."""
@@ -267,7 +271,21 @@ class KeptModel:
 
     def pin(self) -> None:
         """Takes the model as it is for the baseline."""
-        self.base_texts, self.known_baseline, self.pinned = self.texts(), None, self.bench.version
+        self.base_texts, self.known_baseline, self.pinned = self.texts(), None, f"version {self.bench.version}"
+
+    def name_version(self, name: str) -> None:
+        """Gives the model as it is now a name, which the journal keeps as a comment."""
+        if not re.fullmatch(r"[\w .,=+-]{1,60}", name.strip(), re.ASCII):
+            raise Problem("a name has up to 60 letters, digits, blanks and signs")
+        self.named[name.strip()] = self.texts()
+        self.note(f"# {name.strip()}")
+
+    def compare_with(self, name: str) -> None:
+        """Takes a version that has a name for the baseline; without a name the model as it was opened."""
+        if name and name not in self.named:
+            raise Problem(f"no version is called {name}")
+        self.base_texts = list(self.named[name] if name else self.opened)
+        self.known_baseline, self.pinned = None, name or None
 
     def baseline(self, start: int, each: Callable[[int], None] | None = None) -> Reports:
         """The reports of the baseline over the replications that there are now, by a session of its own."""

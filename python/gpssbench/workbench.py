@@ -120,6 +120,7 @@ class Desk:
         return {
             **found, "version": self.kept.bench.version, "statements": rows, "names": self.kept.names_of(),
             "verbs": codes.statements.VERBS, "script": self.kept.bench.script, "replications": self.kept.bench.replications,
+            "named": list(self.kept.named), "pinned": self.kept.pinned,
             "undo": bool(self.kept.done and self.kept.done[-1][1]), "redo": bool(self.kept.undone),
         }
 
@@ -153,7 +154,7 @@ class Desk:
         outcomes = [f"replication {it.replication}: {it.outcome}" for it in self.reports if it.outcome != "COMPLETE"]
         return {
             "kind": "figures", "rows": rows, "missing": missing + outcomes, "start": self.start(), "classes": self.classes(),
-            "baseline": "the model as it was opened" if self.kept.pinned is None else f"version {self.kept.pinned}",
+            "baseline": self.kept.pinned or "the model as it was opened",
         }
 
     def classes(self) -> dict[str, list]:
@@ -259,8 +260,12 @@ class Desk:
             self.reports = None
             self.tell(self.state())
             self.simulate()
-        elif word == "pin":
-            self.kept.pin()
+        elif word == "name":
+            self.kept.name_version(str(asked.get("name", "")))
+            self.tell(self.state())
+            self.tell({"kind": "said", "text": f"this version is called {str(asked['name']).strip()}"})
+        elif word in ("pin", "baseline"):
+            self.kept.pin() if word == "pin" else self.kept.compare_with(str(asked.get("name", "")))
             self.tell(self.state())
             self.simulate()
         elif word == "report":

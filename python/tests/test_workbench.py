@@ -19,6 +19,7 @@ from selenium import webdriver
 from selenium.common.exceptions import StaleElementReferenceException
 from selenium.webdriver.common.by import By
 from selenium.webdriver.common.keys import Keys
+from selenium.webdriver.support.select import Select
 
 address, folder, server = sys.argv[1], sys.argv[2], int(sys.argv[3])
 options = webdriver.ChromeOptions()
@@ -117,10 +118,20 @@ try:
     until(lambda: "Differences are to version" in text("#about"), "a baseline")
     until(lambda: not driver.find_elements(By.CSS_SELECTOR, "#model tr.changed"), "nothing differs from it")
 
+    # a version that has a name is a baseline to choose
+    find("#version-name").send_keys("eleven beds", Keys.ENTER)
+    until(lambda: "this version is called eleven beds" in text("#said"), "a name")
+    again(lambda: Select(find("#baseline")).select_by_visible_text("as it was opened"))
+    until(lambda: "to the model as it was opened" in text("#about") and "without 0" in text("#table"), "the first baseline")
+    again(lambda: Select(find("#baseline")).select_by_visible_text("eleven beds"))
+    until(lambda: "Differences are to eleven beds" in text("#about"), "the one with a name")
+
     # the report is the program's, byte for byte
     find("#tab-report").click()
     until(lambda: text("#bytes").startswith("REPLICATION 1 SEED 1945846388"), "a report")
-    script = "\\n".join(open(os.path.join(folder, "ward.gps.edits")).read().strip().split("\\n") + ["report 1 1", ""])
+    kept = open(os.path.join(folder, "ward.gps.edits")).read().strip().split("\\n")
+    assert "# eleven beds" in kept, kept
+    script = "\\n".join([it for it in kept if not it.startswith("#")] + ["report 1 1", ""])
     ran = subprocess.run([os.environ["GPSSBENCH"], os.path.join(folder, "ward.gps"), "--seed", "1945846388"],
                          input=script.encode(), capture_output=True).stdout.decode()
     told = driver.execute_script("return document.getElementById('bytes').textContent")

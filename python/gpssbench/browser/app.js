@@ -63,6 +63,10 @@ function showState(told) {
     $("text").focus();
     return;
   }
+  const options = [["", "as it was opened"], ...told.named.map((it) => [it, it])];
+  if (told.pinned && !told.named.includes(told.pinned)) options.push([told.pinned, told.pinned]);
+  $("baseline").replaceChildren(...options.map(([value, text]) => Object.assign(make("option", text), { value })));
+  $("baseline").value = told.pinned ?? "";
   const count = Object.keys(told.replications).length;
   $("replications").value = count;
   const chosen = $("replication").value;
@@ -279,6 +283,11 @@ $("all").addEventListener("change", showTable);
 $("replication").addEventListener("change", askReport);
 $("files").addEventListener("change", () => ask({ do: "open", name: $("files").value }));
 $("save").addEventListener("click", () => ask({ do: "save", name: $("name").value }));
+$("baseline").addEventListener("change", () => ask({ do: "baseline", name: $("baseline").value }));
+$("version-name").addEventListener("change", () => {
+  ask({ do: "name", name: $("version-name").value });
+  $("version-name").value = "";
+});
 $("plan").addEventListener("click", () => ask({ do: "plan", name: $("plan-name").value }));
 $("mend").addEventListener("submit", (event) => {
   event.preventDefault();
