@@ -206,7 +206,9 @@ class Page:
         listed = there[:40]
         if listed:
             best = {cell for cell, it in where.items() if it == "best"}
-            says = f"Means with {self.level} per cent intervals; the diamond is the {which}."
+            some = f"The first {len(listed)} of {len(there)} scenarios: means" if len(listed) < len(there) else "Means"
+            diamond = f"; the diamond is the {which}" if len(listed) > 1 else ""
+            says = f"{some} with {self.level} per cent intervals{diamond}."
             add("points", self.pictures.points(f"p{at}", listed, f"{name}: {title}", best), says)
         grid = [row for row in there if all(row[factor] for factor in self.factors)] if self.factors else []
         if len(self.factors) == 2 and len(grid) > 3:
@@ -229,7 +231,8 @@ class Page:
     def says(self, name: str, rows, where: dict[str, str], which: str) -> str:
         best = next((cell for cell, it in where.items() if it == "best"), None)
         if best is None:
-            return f"One scenario, {rows[0]['n']} of {rows[0]['of']} runs with a figure."
+            runs = ", ".join(dict.fromkeys(f"{row['n']} of {row['of']}" for row in rows))
+            return f"{'Nothing to compare' if len(rows) > 1 else 'One scenario'}: {runs} runs have a figure."
         row = next(row for row in rows if row["cell"] == best)
         like = [cell for cell, it in where.items() if it != "best"]
         half = f", give or take {tidy(row['half'])}" if row["half"] else ""
