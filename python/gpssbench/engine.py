@@ -121,7 +121,7 @@ def on_cluster(chunks: list[dict], address: str) -> Iterator[dict]:
     from distributed.diagnostics.plugin import UploadFile
 
     try:
-        client = Client(address, timeout="20s", set_as_default=False)
+        client = Client(address, timeout="8s", set_as_default=False)
     except (OSError, TimeoutError) as why:
         raise Problem(f"no scheduler answers at {address}: {why}") from None
     with client, tempfile.TemporaryDirectory() as folder:
