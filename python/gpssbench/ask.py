@@ -147,7 +147,7 @@ class Prompt:
 
     def peek(self, rest: list[str]) -> None:
         steps = self.kept.kept_steps(self.start())
-        told = [f"{replication}: {'known' if it is None else it}" for replication, it in zip(self.kept.bench.replications, steps)]
+        told = [f"{replication}: {'known' if it is None else it}" for replication, it in steps.items()]
         print("steps that are kept, by replication: " + ", ".join(told))
 
     def explain(self, rest: list[str]) -> None:

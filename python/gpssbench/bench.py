@@ -347,7 +347,7 @@ class Bench:
         first, _ = self.ask(line)
         if not first.startswith("ok "):
             raise self.refused(line, first)
-        self.version = int(first.split(" ")[1])
+        self.version += 1
         self.script.append(line)
         return self.version
 

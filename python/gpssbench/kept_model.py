@@ -8,8 +8,9 @@ from dataclasses import dataclass, field
 
 from . import codes, script, statements
 from .answers import KINDS
-from .bench import Bench, Measure, Refused, Reports
+from .bench import Bench, Measure, NoReport, Refused, Reports
 from .command import Problem
+from .program import Ended
 from .seeds import RECOMMENDED
 from .stats import Estimate, differences, estimate
 
@@ -20,6 +21,10 @@ MAIN = {
     "storage": ["UTIL.", "AVE.C.", "ENTRIES"],
     "table": ["MEAN", "STD.DEV."],
 }
+
+
+# A number of steps of each replication; None where it is not known.
+Steps = dict[int, int | None]
 
 
 @dataclass
@@ -196,7 +201,7 @@ class KeptModel:
             return f"replicate {at + 1} {self.bench.replications[at + 1]}"
         if word == "horizon":
             told = [line for line, _ in self.done if line.startswith("horizon ")]
-            return told[-1] if told else f"horizon {self.words.get('horizon', 10**9)}"
+            return told[-1] if told else f"horizon {self.words.get('horizon') or 10**9}"
         return ""
 
     def follow(self, word: str, rest: list[str], before: list[str]) -> str:
@@ -258,12 +263,29 @@ class KeptModel:
     def starts(self) -> int:
         return sum(text.split()[0] == "START" for text in self.texts())
 
-    def kept_steps(self, start: int) -> list[int | None]:
-        """Of each replication how many steps are recorded; None where its report is known without another step."""
-        found = []
+    def kept_steps(self, start: int) -> Steps:
+        """Of each replication how many steps are recorded; None where its answer is known without another step."""
+        found: Steps = {}
         for replication in self.bench.replications:
-            answer = self.bench.peek(replication, start)
-            found.append(answer if isinstance(answer, int) else None)
+            try:
+                answer = self.bench.peek(replication, start)
+            except NoReport:
+                answer = None
+            found[replication] = answer if isinstance(answer, int) else None
+        return found
+
+    def recorded(self) -> Steps:
+        """Of each replication how many steps are recorded; None where its run ended before the last START.
+
+        The program counts them for a START that is not reached. One that is added at the end keeps all steps, and so does
+        its deletion. Both are no edits of the script."""
+        place = len(self.statements) + 1
+        if not self.bench.ask(f"insert {place} START 1")[0].startswith("ok "):
+            return dict.fromkeys(self.bench.replications)
+        found = self.kept_steps(self.starts() + 1)
+        if not self.bench.ask(f"delete {place}")[0].startswith("ok "):
+            self.bench.close()
+            raise Ended("a START that counts the steps could not be deleted")
         return found
 
     def reports(self, start: int, each: Callable[[int], None] | None = None) -> Reports:
@@ -306,6 +328,18 @@ class KeptModel:
         return sorted({name for it in codes.read(self.texts()) for name in it.names()})
 
 
+def cost(kept: Steps, recorded: Steps) -> str:
+    """What an edit cost: how many steps stood before the reports were made, of those that are recorded after that."""
+    counted = {replication: steps for replication, steps in recorded.items() if steps is not None}
+    if not counted:
+        return "the steps are not counted, since no run reaches the end of the last START"
+    all_steps = sum(counted.values())
+    stood = sum(steps if kept.get(it, 0) is None else kept.get(it, 0) for it, steps in counted.items())
+    told = f"{stood:,} of {all_steps:,} steps were kept, and {all_steps - stood:,} made anew"
+    of = "" if len(counted) == len(recorded) else f", in {len(counted)} of {len(recorded)} replications"
+    return told + of
+
+
 def figures(reports: Reports, everything: bool = False) -> list[tuple[Measure, Estimate | None]]:
     """The figures of all entities over the replications."""
     found = []
@@ -329,4 +363,4 @@ def compare(before: Reports, now: Reports, everything: bool = False) -> list[Dif
     return found
 
 
-__all__ = ["Difference", "KeptModel", "Refused", "compare", "figures"]
+__all__ = ["Difference", "KeptModel", "Refused", "compare", "cost", "figures"]

@@ -1,6 +1,6 @@
 """A model that is kept open, in a browser.
 
-    tools/workbench MODEL [SCRIPT] [--port 8080] [--replications 8] [--seed S] [--start K]
+    tools/workbench MODEL [SCRIPT] [--port 8080] [--replications 8] [--seed S] [--start K] [--every N]
 
 It prints an address with a token, and serves it to this machine alone. On the left stand the statements of the model, with
 the counts of their blocks; a click or Enter edits a line, `i` inserts before it, `a` after it, Delete deletes it. On the
@@ -25,7 +25,7 @@ from concurrent.futures import ThreadPoolExecutor
 from . import codes, script
 from .bench import NoReport, Refused, Report, Reports
 from .command import Problem, Words, lines_of, with_packages
-from .kept_model import KeptModel, compare, figures
+from .kept_model import KeptModel, Steps, compare, cost, figures
 from .program import Ended
 from .stats import Estimate, fixed
 
@@ -44,16 +44,20 @@ class Desk:
     """The model that is open, and what is known of it. Its calls are made one at a time, by one thread."""
 
     def __init__(
-        self, path: str, seed: int, replications: int, start: int | None, tell, lines: list[script.Line] = ()
+        self, path: str, seed: int, replications: int, start: int | None, tell, lines: list[script.Line] = (),
+        words: dict[str, int] | None = None,
     ):
         self.path, self.seed, self.replications, self.asked_start = os.path.abspath(path), seed, replications, start
         self.folder = os.path.dirname(self.path)
-        self.tell = tell
+        self.tell, self.words = tell, words or {}
         self.kept: KeptModel | None = None
         self.fault: dict | None = None
         self.reports: Reports | None = None
         self.gives_up = False
         self.since, self.done = 0.0, 0
+        # the steps of the last simulation, and in words how many of them the present one keeps
+        self.recorded: Steps = {}
+        self.keeps = ""
         is_new = not os.path.exists(self.path + ".edits")
         self.open()
         for line in lines if self.kept and is_new else ():
@@ -71,8 +75,9 @@ class Desk:
         """Opens the model's file with the edits that were made, or keeps why it is refused."""
         self.close()
         self.fault = self.reports = None
+        self.recorded = {}
         try:
-            self.kept = KeptModel(self.path, self.seed, self.replications, self.path + ".edits")
+            self.kept = KeptModel(self.path, self.seed, self.replications, self.path + ".edits", words=self.words)
         except Refused as why:
             self.refused_model(why, self.text())
         except Problem as why:
@@ -179,13 +184,11 @@ class Desk:
         self.since, self.done = time.monotonic(), 0
         try:
             kept = self.kept.kept_steps(self.start())
+            self.keeps = self.kept_so_far(kept)
             self.reports = self.kept.reports(self.start(), self.progress)
             shown = self.shown()
-            fresh = [it for it in kept if it is not None]
-            went_on = [steps for steps in fresh if steps]
-            shown["cost"] = "nothing had to be simulated" if not fresh else "no step was kept" if not went_on else (
-                f"{sum(went_on):,} steps were kept, in {len(went_on)} of {len(fresh)} replications that were simulated"
-            )
+            self.recorded = self.kept.recorded()
+            shown["cost"] = cost(kept, self.recorded)
             shown["seconds"] = round(time.monotonic() - self.since, 2)
             self.tell(self.state())
             self.tell(shown)
@@ -195,6 +198,12 @@ class Desk:
             self.tell({"kind": "figures", "rows": [], "missing": [str(why)], "classes": {}, "start": self.start()})
         finally:
             self.since = 0.0
+
+    def kept_so_far(self, kept: Steps) -> str:
+        """How many of the steps that were recorded before an edit are kept; nothing where none were."""
+        before = sum(steps or 0 for steps in self.recorded.values())
+        stand = sum(self.recorded.get(it) or 0 if steps is None else steps for it, steps in kept.items())
+        return f"{stand:,} of {before:,} steps are kept" if before else ""
 
     def ask(self, asked: dict) -> None:
         """Does what a tab asks; what is wrong with it is told."""
@@ -332,7 +341,7 @@ class Desk:
     def write_text(self, text: str) -> None:
         """A model that was refused, mended: it is written once the program takes it."""
         try:
-            KeptModel(self.path, self.seed, 1, text=text).bench.close()
+            KeptModel(self.path, self.seed, 1, text=text, words=self.words).bench.close()
         except Refused as why:
             self.refused_model(why, text)
             self.tell(self.state())
@@ -435,13 +444,13 @@ def application(desk_of, token: str, hosts: set[str]):
             seconds = time.monotonic() - desk.since
             if seconds > 0.15:
                 of = len(desk.kept.bench.replications) if desk.kept else 0
-                tell({"kind": "busy", "done": desk.done, "of": of, "seconds": round(seconds, 1)})
+                tell({"kind": "busy", "done": desk.done, "of": of, "seconds": round(seconds, 1), "keeps": desk.keeps})
 
     return web.Application([(r"/([^/]+)/ws", Tab), (r"/([^/]+)/([a-z.]*)", Page)]), desk, pulse
 
 
 def main(words: list[str]) -> int:
-    read = Words(words, "--port --replications --seed --start")
+    read = Words(words, "--port --replications --seed --start --every")
     if len(read.rest) not in (1, 2):
         raise Problem("a MODEL is wanted; --help shows how")
     with open(read.rest[0], "rb"):
@@ -450,6 +459,7 @@ def main(words: list[str]) -> int:
     port = read.number("--port", 8080, 1, 65535)
     seed = read.number("--seed", 1945846388, 1, 2147483646)
     count, start = read.number("--replications", 8, 1, 32), read.number("--start", None, 1, 10**9)
+    every = read.number("--every", None, 1, 10**6)
     with_packages("tornado")
     import asyncio
     import logging
@@ -461,7 +471,7 @@ def main(words: list[str]) -> int:
     async def serve() -> None:
         token = secrets.token_urlsafe(24)
         hosts = {f"127.0.0.1:{port}", f"localhost:{port}"}
-        desk_of = lambda tell: Desk(read.rest[0], seed, count, start, tell, lines)
+        desk_of = lambda tell: Desk(read.rest[0], seed, count, start, tell, lines, {"every": every})
         app, desk, pulse = application(desk_of, token, hosts)
         try:
             server = app.listen(port, address="127.0.0.1")

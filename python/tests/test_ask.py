@@ -7,7 +7,7 @@ import time
 import unittest
 
 from common import DESK, ROOT, SEED, InFolder, tool
-from gpssbench.kept_model import KeptModel, compare
+from gpssbench.kept_model import KeptModel, compare, cost
 
 
 class Prompts(InFolder):
@@ -67,6 +67,39 @@ class Prompts(InFolder):
         self.assertEqual((again.replayed, again.texts()[4]), (1, "SERVE ADVANCE 140,40"))
         found = compare(again.baseline(1), again.reports(1))
         self.assertTrue(any(it.change.mean for it in found))
+
+    def test_what_an_edit_keeps_is_counted(self):
+        kept = KeptModel(self.write("desk.gps", DESK), SEED, 2, words={"every": 50})
+        self.addCleanup(kept.bench.close)
+        known = [report.text for report in kept.reports(1)]
+        all_steps = kept.recorded()
+        self.assertTrue(all(steps > 800 for steps in all_steps.values()), all_steps)
+        # it is counted by a START at the end, which leaves no trace
+        self.assertEqual((kept.bench.list(), kept.bench.version, kept.recorded()), (kept.texts(), 1, all_steps))
+        self.assertEqual(kept.kept_steps(1), {1: None, 2: None})
+        self.assertEqual([report.text for report in kept.reports(1)], known)
+        # a further START keeps all steps; a seed keeps those of the other replications
+        kept.edit("insert 9 START 10")
+        steps = kept.kept_steps(2)
+        self.assertEqual(steps, all_steps)
+        kept.reports(2)
+        more = kept.recorded()
+        self.assertEqual(cost(steps, more),
+                         f"{sum(all_steps.values()):,} of {sum(more.values()):,} steps were kept, and "
+                         f"{sum(more.values()) - sum(all_steps.values()):,} made anew")
+        kept.edit("seed 2 1474719581")
+        self.assertEqual(kept.kept_steps(2), {1: None, 2: 0})
+
+    def test_runs_that_never_end_are_not_counted(self):
+        text = "GENERATE 10,,,1\nTRANSFER .5,,Round\nTERMINATE 1\nRound BUFFER\nTRANSFER ,Round\nSTART 1\n"
+        kept = KeptModel(self.write("round.gps", text), SEED, 16, words={"limit": 50})
+        self.addCleanup(kept.bench.close)
+        reports = kept.reports(1)
+        self.assertTrue(0 < len(reports) < 16)
+        counted = [number for number, steps in kept.recorded().items() if steps is not None]
+        self.assertTrue(set(counted) >= {report.replication for report in reports}, counted)
+        self.assertEqual(cost({1: 0}, {1: None}), "the steps are not counted, since no run reaches the end of the last START")
+        self.assertEqual(cost({1: None, 2: 0}, {1: 7, 2: None}), "7 of 7 steps were kept, and 0 made anew, in 1 of 2 replications")
 
     def test_completion_at_a_terminal(self):
         path = self.write("desk.gps", DESK)

@@ -14,7 +14,7 @@ from gpssbench.command import SYSTEM, has
 
 # What the browser is asked, run by the Python that has Selenium.
 BROWSE = """
-import json, os, signal, subprocess, sys, time
+import json, os, re, signal, subprocess, sys, time
 from selenium import webdriver
 from selenium.common.exceptions import StaleElementReferenceException
 from selenium.webdriver.common.by import By
@@ -92,6 +92,9 @@ try:
     assert journal() == ["change 1 Beds STORAGE 11"], journal()
     until(lambda: "BEDS STORAGE 10 -> BEDS STORAGE 11" in text("#said"), "what was replaced")
     assert find("#model tr.changed").text.startswith("1"), "what differs is marked"
+    kept = re.search(r"([0-9,]+) of ([0-9,]+) steps were kept, and ([0-9,]+) made anew", text("#about"))
+    stood, whole, anew = (int(it.replace(",", "")) for it in kept.groups())
+    assert 0 < stood < whole and stood + anew == whole, kept
 
     # a refusal stands beside its statement, and changes nothing
     change(7, "ADVANCE 1.5")
@@ -332,7 +335,7 @@ class Workbench(InFolder):
     def test_in_a_browser(self):
         if not (shutil.which("chromium") and shutil.which("chromedriver") and has("selenium", SYSTEM)):
             self.skipTest("no chromium, chromedriver or selenium: the workbench in a browser")
-        server, address = self.serve()
+        server, address = self.serve("--every", "50")
         words = [SYSTEM, "-c", BROWSE, address, self.folder, str(server.pid)]
         ran = subprocess.run(words, capture_output=True, timeout=110)
         self.assertEqual((ran.returncode, ran.stdout), (0, b"seen\n"), ran.stderr.decode()[-3500:])

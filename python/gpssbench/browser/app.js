@@ -224,7 +224,8 @@ const showReport = (told) => ($("bytes").textContent = told.text);
 
 function showBusy(told) {
   $("give-up").hidden = false;
-  $("said").textContent = `Simulating: ${told.done} of ${told.of} replications, ${told.seconds} s`;
+  const keeps = told.keeps ? `; ${told.keeps}` : "";
+  $("said").textContent = `Simulating: ${told.done} of ${told.of} replications, ${told.seconds} s${keeps}`;
 }
 
 function showSaid(told) {
