@@ -18,9 +18,10 @@
 The model as it was opened is the first baseline. On a terminal there are a history (~/.gpssbench_history) and completion by
 the tabulator; otherwise it reads its lines from standard input."""
 import os
+import re
 import sys
 
-from . import codes, script
+from . import codes, offers, script
 from .bench import Measure, NoReport, Refused, Reports
 from .command import Problem, Words
 from .kept_model import MAIN, KeptModel, compare, figures
@@ -171,21 +172,31 @@ def complete(prompt: Prompt):
     def found(text: str, state: int) -> str | None:
         import readline
 
-        first = readline.get_line_buffer()[: readline.get_begidx()].strip()
-        if not first:
-            words = COMMANDS
-        elif text.startswith("@"):
-            words = [f"@{script.label_of(it, VERBS)}" for it in prompt.kept.texts() if script.label_of(it, VERBS)]
-        elif first.split()[0] == "show":
-            words = [*prompt.kept.names_of(), *MAIN]
-        else:
-            words = [*prompt.kept.names_of(), *VERBS]
-        near = [it for it in words if it.lower().startswith(text.lower())]
+        near = words_for(prompt.kept, readline.get_line_buffer()[: readline.get_begidx()], text)
         return near[state] + " " if state < len(near) else None
 
     return found
 
 
+def words_for(kept: KeptModel, front: str, text: str) -> list[str]:
+    """The words that a text may become, after what stands in front of it."""
+    before, names = front.lower().split(), kept.names()
+    if statement := STATEMENT.match(front):
+        return offers.offered(names, front[statement.end() :] + text)[1]
+    if not before:
+        words = COMMANDS
+    elif text.startswith("@"):
+        words = [f"@{label}" for it in kept.texts() if (label := script.label_of(it, VERBS))]
+    elif before[0] == "show":
+        words = list(MAIN) if len(before) == 1 else names.get(before[1], [])
+    else:
+        words = names.get(NAMED.get(before[0], ""), [])
+    return [it for it in words if it.lower().startswith(text.lower())]
+
+
+# What stands in front of the statement of an edit, and what other commands name.
+STATEMENT = re.compile(r"(?i)\s*(?:change|insert)\s+(?:(?:before|after)\s+)?(?:[0-9]+|@/.*?/|@\w+)\s+")
+NAMED = {"capacity": "storage"}
 VERBS = frozenset(codes.statements.VERBS)
 
 
@@ -198,7 +209,7 @@ def lines(prompt: Prompt):
         import readline
 
         readline.set_completer(complete(prompt))
-        readline.set_completer_delims(" \t,()")
+        readline.set_completer_delims(" \t,()+-#\\")
         readline.parse_and_bind("tab: complete")
         if os.path.exists(HISTORY):
             readline.read_history_file(HISTORY)

@@ -6,7 +6,7 @@ import re
 from collections.abc import Callable
 from dataclasses import dataclass, field
 
-from . import codes, script, statements
+from . import codes, offers, script, statements
 from .answers import KINDS
 from .bench import Bench, Measure, NoReport, Refused, Reports
 from .command import Problem
@@ -323,9 +323,9 @@ class KeptModel:
                 self.known_baseline = key, other.reports(start, each=each)
         return self.known_baseline[1]
 
-    def names_of(self) -> list[str]:
-        """The names that one may complete: labels and entities."""
-        return sorted({name for it in codes.read(self.texts()) for name in it.names()})
+    def names(self) -> offers.Names:
+        """The names that one may complete, by kind: labels and entities."""
+        return offers.names_of(codes.read(self.texts()))
 
 
 def cost(kept: Steps, recorded: Steps) -> str:

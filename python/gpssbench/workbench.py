@@ -22,7 +22,7 @@ import time
 import traceback
 from concurrent.futures import ThreadPoolExecutor
 
-from . import codes, script
+from . import codes, offers, script
 from .bench import NoReport, Refused, Report, Reports
 from .command import Problem, Words, lines_of, with_packages
 from .kept_model import KeptModel, Steps, compare, cost, figures
@@ -30,6 +30,7 @@ from .program import Ended
 from .stats import Estimate, fixed
 
 HERE = os.path.join(os.path.dirname(os.path.abspath(__file__)), "browser")
+MOST_OFFERED = 50
 NAME = re.compile(r"[A-Za-z0-9][A-Za-z0-9_.-]{0,99}")
 FILES = {"": ("index.html", "text/html"), "app.js": ("app.js", "text/javascript"), "app.css": ("app.css", "text/css")}
 
@@ -58,6 +59,7 @@ class Desk:
         # the steps of the last simulation, and in words how many of them the present one keeps
         self.recorded: Steps = {}
         self.keeps = ""
+        self.names: offers.Names = {}
         is_new = not os.path.exists(self.path + ".edits")
         self.open()
         for line in lines if self.kept and is_new else ():
@@ -110,7 +112,7 @@ class Desk:
         found = {"kind": "state", "file": os.path.basename(self.path), "files": files, "fault": self.fault}
         if self.kept is None:
             return {**found, "version": -1, "statements": []}
-        counts = self.counts()
+        counts, self.names = self.counts(), self.kept.names()
         rows, position = [], 0
         for it, differs in zip(self.kept.statements, self.kept.changed()):
             words = it.text.split("|")[0].split(" ")
@@ -123,8 +125,7 @@ class Desk:
                 "counts": counts.get(str(position)) if is_block else None,
             })
         return {
-            **found, "version": self.kept.bench.version, "statements": rows, "names": self.kept.names_of(),
-            "verbs": codes.statements.VERBS, "script": self.kept.bench.script, "replications": self.kept.bench.replications,
+            **found, "version": self.kept.bench.version, "statements": rows, "script": self.kept.bench.script, "replications": self.kept.bench.replications,
             "named": list(self.kept.named), "pinned": self.kept.pinned,
             "undo": bool(self.kept.done and self.kept.done[-1][1]), "redo": bool(self.kept.undone),
         }
@@ -355,6 +356,11 @@ class Desk:
         self.tell(self.state())
         self.simulate()
 
+    def offer(self, typed: str) -> dict:
+        """What a statement that is being typed may go on as; asked from beside."""
+        front, words = offers.offered(self.names, typed)
+        return {"kind": "offer", "typed": typed, "lines": [front + it for it in words[:MOST_OFFERED]]}
+
     def give_up(self) -> None:
         """Ends the program that simulates; called from beside."""
         if self.since and self.kept:
@@ -429,6 +435,8 @@ def application(desk_of, token: str, hosts: set[str]):
                 return
             if asked.get("do") == "give up":
                 desk.give_up()
+            elif asked.get("do") == "offer":
+                self.write_message(json.dumps(desk.offer(str(asked.get("typed", "")))))
             else:
                 worker.submit(desk.ask, asked)
 

@@ -7,6 +7,8 @@ import time
 import unittest
 
 from common import DESK, ROOT, SEED, InFolder, tool
+from gpssbench import offers
+from gpssbench.ask import words_for
 from gpssbench.kept_model import KeptModel, compare, cost
 
 
@@ -67,6 +69,47 @@ class Prompts(InFolder):
         self.assertEqual((again.replayed, again.texts()[4]), (1, "SERVE ADVANCE 140,40"))
         found = compare(again.baseline(1), again.reports(1))
         self.assertTrue(any(it.change.mean for it in found))
+
+    def test_names_are_offered_by_their_place(self):
+        text = """Beds STORAGE 3
+Urgent EQU 2
+Work VARIABLE P$Lot+1
+Stay TABLE M1,10,10,5
+GENERATE 20
+ASSIGN Lot,4
+QUEUE Line
+QUEUE Urgent
+Into ENTER Beds
+SEIZE Nurse
+ADVANCE V$Work
+TABULATE Stay
+LOGIC S Open
+LINK Wait,FIFO
+SAVEVALUE Sum+,1
+Out TERMINATE 1
+START 5
+"""
+        kept = KeptModel(self.write("ward.gps", text), SEED)
+        self.addCleanup(kept.bench.close)
+        names = kept.names()
+        for typed, words in (
+            ("QU", ["QUEUE"]), ("Into EN", ["ENTER"]), ("queue ", ["LINE", "URGENT"]), ("DEPART li", ["LINE"]),
+            ("ENTER ", ["BEDS"]), ("SEIZE ", ["NURSE"]), ("Into SEIZE N", ["NURSE"]), ("TRANSFER .5,,O", ["OUT"]),
+            ("TRANSFER ,", ["INTO", "OUT"]), ("GATE ", ["U", "NU", "LS", "LR", "SE", "SNE", "SF", "SNF"]), ("GATE LR ", ["OPEN"]),
+            ("Tested TEST E Q$", ["Q$LINE", "Q$URGENT"]), ("TEST E Q$Line,0,I", ["INTO"]), ("GATE SF ", ["BEDS"]),
+            ("LINK Wait,", ["FIFO", "LIFO"]), ("TABULATE ", ["STAY"]), ("SAVEVALUE S", ["SUM"]), ("ASSIGN ", ["LOT"]),
+            ("ADVANCE U", ["URGENT"]), ("ADVANCE (P$", ["P$LOT"]), ("ADVANCE ((1+2)#V", ["V$WORK"]), ("ADVANCE N$", ["N$INTO", "N$OUT"]),
+            ("UNLINK Wait,Into,A", ["ALL"]), ("START 5,", ["NP"]), ("QUEUE Line,1,", []), ("QUEUE Line a comment ", []),
+            ("SAVEVALUE Sum+", []), ("nothing of the kind ", []), ("QUEUE " + "L" * 300, []),
+        ):
+            self.assertEqual(offers.offered(names, typed)[1], words, typed)
+        self.assertEqual(offers.offered(names, "Into ENTER be"), ("Into ENTER ", ["BEDS"]))
+        for front, word, words in (
+            ("", "sh", ["show"]), ("show ", "q", ["queue"]), ("show queue ", "", ["LINE", "URGENT"]), ("capacity ", "", ["BEDS"]),
+            ("change ", "@b", ["@BEDS"]), ("change @Into ", "EN", ["ENTER"]), ("insert before @Into SEIZE ", "", ["NURSE"]),
+            ("insert 3 QUEUE ", "l", ["LINE"]), ("change @/QUEUE LINE/ DEPART ", "", ["LINE", "URGENT"]),
+        ):
+            self.assertEqual(words_for(kept, front, word), words, front + word)
 
     def test_what_an_edit_keeps_is_counted(self):
         kept = KeptModel(self.write("desk.gps", DESK), SEED, 2, words={"every": 50})

@@ -105,6 +105,15 @@ try:
     until(lambda: "&lt;script" in find("#model .refusal").get_attribute("innerHTML").lower(), "a label that is HTML")
     find("#model input").send_keys(Keys.ESCAPE)
 
+    # names are offered by their place
+    again(lambda: driver.find_elements(By.CSS_SELECTOR, "#model td.statement")[4].click())
+    given, offered = find("#model input"), lambda: [it.get_attribute("value") for it in driver.find_elements(By.CSS_SELECTOR, "#words option")]
+    for typed, lines in (("DEPART ", ["DEPART URGENT", "DEPART WAITING"]), ("ENTER B", ["ENTER BEDS"])):
+        given.clear()
+        given.send_keys(typed)
+        until(lambda: offered() == lines, typed)
+    given.send_keys(Keys.ESCAPE)
+
     # the keyboard alone: down to a statement, a line after it, undo, redo
     first = lambda: driver.find_elements(By.CSS_SELECTOR, "#model td.statement")[0]
     again(lambda: first().send_keys(Keys.ARROW_DOWN, Keys.ARROW_DOWN, "a"))

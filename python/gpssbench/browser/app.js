@@ -21,7 +21,7 @@ function connect() {
   socket = new WebSocket(new URL("ws", location.href.replace(/^http/, "ws")));
   socket.onmessage = (event) => {
     const told = JSON.parse(event.data);
-    ({ state: showState, figures: showFigures, report: showReport, busy: showBusy, refused: showRefused, said: showSaid })[told.kind]?.(told);
+    ({ state: showState, figures: showFigures, report: showReport, busy: showBusy, offer: showOffer, refused: showRefused, said: showSaid })[told.kind]?.(told);
   };
   socket.onclose = () => {
     $("said").textContent = "The workbench does not answer; trying again.";
@@ -73,7 +73,6 @@ function showState(told) {
   $("replication").replaceChildren(...Object.keys(told.replications).map((it) => make("option", it)));
   $("replication").value = told.replications[chosen] ? chosen : Object.keys(told.replications)[0];
   $("lines").textContent = told.script.join("\n");
-  $("words").replaceChildren(...[...told.verbs, ...told.names].map((it) => Object.assign(make("option"), { value: it })));
   if (!editing) showModel();
 }
 
@@ -129,7 +128,15 @@ function begin(place, side) {
     if (event.key === "Escape") end();
     if (event.key === "Enter") commit();
   });
+  input.addEventListener("input", askOffer);
   input.focus();
+  askOffer();
+}
+
+const askOffer = () => ask({ do: "offer", typed: editing.input.value });
+function showOffer(told) {
+  if (editing?.input.value !== told.typed) return;
+  $("words").replaceChildren(...told.lines.map((it) => Object.assign(make("option"), { value: it })));
 }
 
 function end() {
