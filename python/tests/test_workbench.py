@@ -1,6 +1,7 @@
 """The workbench in a browser: edits, refusals, two tabs, a program that dies, and who may come in."""
 import http.client
 import os
+import re
 import shutil
 import signal
 import socket
@@ -95,6 +96,7 @@ try:
     kept = re.search(r"([0-9,]+) of ([0-9,]+) steps were kept, and ([0-9,]+) made anew", text("#about"))
     stood, whole, anew = (int(it.replace(",", "")) for it in kept.groups())
     assert 0 < stood < whole and stood + anew == whole, kept
+    driver.save_screenshot(f"{folder}/edited.png")
 
     # a refusal stands beside its statement, and changes nothing
     change(7, "ADVANCE 1.5")
@@ -126,7 +128,7 @@ try:
     until(lambda: "queue ALL" in text("#table"), "redo")
     press("u")
     until(lambda: "queue ALL" not in text("#table"), "undo again")
-    find("#pin").click()
+    press("p")
     until(lambda: "Differences are to version" in text("#about"), "a baseline")
     until(lambda: not driver.find_elements(By.CSS_SELECTOR, "#model tr.changed"), "nothing differs from it")
 
@@ -139,7 +141,7 @@ try:
     until(lambda: "Differences are to eleven beds" in text("#about"), "the one with a name")
 
     # the report is the program's, byte for byte
-    find("#tab-report").click()
+    find("#tab-figures").send_keys(Keys.ARROW_RIGHT)
     until(lambda: text("#bytes").startswith("REPLICATION 1 SEED 1945846388"), "a report")
     kept = open(os.path.join(folder, "ward.gps.edits")).read().strip().split("\\n")
     assert "# eleven beds" in kept, kept
@@ -186,6 +188,11 @@ try:
             time.sleep(0.2)
             wide = driver.execute_script("return document.documentElement.scrollWidth")
             assert wide <= width, f"{wide} of {width}"
+            cut = driver.execute_script('''
+                return [...document.querySelectorAll("button, input, select")].map((it) => [it.id, it.getBoundingClientRect()])
+                    .filter(([id, box]) => box.left < 0 || box.right > arguments[0]).map(([id]) => id);
+            ''', width)
+            assert not cut, f"out of sight at {width}: {cut}"
             driver.save_screenshot(f"{folder}/{width}-{'dark' if dark else 'light'}.png")
     size(1280, False)
 
@@ -272,6 +279,18 @@ print("heard")
 """
 
 
+def contrast(one, other):
+    """The contrast of two colours, by WCAG 2."""
+
+    def light(colour):
+        parts = [int(colour[at : at + 2], 16) / 255 for at in (1, 3, 5)]
+        return sum(share * (it / 12.92 if it <= 0.04045 else ((it + 0.055) / 1.055) ** 2.4)
+                   for share, it in zip((0.2126, 0.7152, 0.0722), parts))
+
+    least, most = sorted((light(one), light(other)))
+    return (most + 0.05) / (least + 0.05)
+
+
 class Workbench(InFolder):
     def setUp(self):
         super().setUp()
@@ -333,6 +352,16 @@ class Workbench(InFolder):
         listening = subprocess.run(["cat", "/proc/net/tcp"], capture_output=True, text=True).stdout
         self.assertIn(f"0100007F:{self.port:04X} 00000000:0000 0A", listening)
         self.assertNotIn(f"00000000:{self.port:04X} 00000000:0000 0A", listening)
+
+    def test_colours_can_be_told_apart(self):
+        with open(os.path.join(ROOT, "python", "gpssbench", "browser", "app.css")) as file:
+            themes = re.findall(r":root \{(.*?)\}", file.read(), re.S)
+        self.assertEqual(len(themes), 2)
+        for theme in themes:
+            colours = dict(re.findall(r"--(\w+): (#[0-9a-f]{6})", theme))
+            for name in ("ink", "soft", "verb", "label", "bad", "good"):
+                for ground in ("paper", "shade", "mark"):
+                    self.assertGreater(contrast(colours[name], colours[ground]), 4.5, f"{name} on {ground}")
 
     def test_bad_input_is_one_line(self):
         self.serve()
