@@ -237,7 +237,7 @@ def main(words: list[str]) -> int:
     study.warn_of_draws()
     runs, failed, without = results.write(study, folder)
     if "--parquet" in read_words.flags:
-        results.write_parquet(folder)
+        results.write_parquet(folder, plan.factors)
     shutil.rmtree(study.parts.folder)
     for name in without:
         warn(f"no run has a figure of {name} = \"{plan.measures[name]}\"")

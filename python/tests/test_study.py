@@ -28,6 +28,21 @@ busy = "facility CLERK UTIL."
 ENDLESS = "GENERATE 10,,,1\nQUEUE Line\nTRANSFER .5,,Round\nDEPART Line\nTERMINATE 1\nRound BUFFER\nTRANSFER ,Round\nSTART 1\n"
 
 
+FAKE_PYARROW = {
+    "__init__.py": "int64, string, float64 = (lambda name=name: name for name in ('int64', 'string', 'float64'))\n",
+    "csv.py": """class ConvertOptions:
+    def __init__(self, column_types):
+        self.column_types = column_types
+read_csv = lambda path, convert_options: (path, convert_options.column_types)
+""",
+    "parquet.py": """import json
+def write_table(table, path):
+    with open(path, "w") as file:
+        json.dump(table, file)
+""",
+}
+
+
 class Studies(InFolder):
     def setUp(self):
         super().setUp()
@@ -129,6 +144,37 @@ class Studies(InFolder):
         self.same_files("cluster", "local")
         wrong = self.study("none", "--on", "tcp://127.0.0.1:9")
         self.assertEqual((wrong.returncode, b"no scheduler answers" in wrong.stderr), (2, True), wrong.stderr)
+
+    def small_plan(self):
+        return PLAN.replace("replications = 40", "replications = 4").replace(', "150,40", "140,40", "130,40"', "").replace(", 200", "")
+
+    def test_parquet_has_the_rows_of_runs(self):
+        python = next((it for it in (sys.executable, SYSTEM) if has("pyarrow", it)), None)
+        if python is None:
+            ran = self.study("none", "--parquet")
+            self.assertEqual((ran.returncode, ran.stderr), (2, b"tools/study: pyarrow is not here: `pip install pyarrow`\n"))
+            self.skipTest("no package pyarrow: tools/study --parquet")
+        self.write("plan.toml", self.small_plan())
+        self.assertEqual(self.study("parquet", "--parquet").returncode, 0)
+        code = "import json, sys, pyarrow.parquet as p; print(json.dumps(p.read_table(sys.argv[1]).to_pylist()))"
+        told = subprocess.run([python, "-c", code, self.path("parquet/runs.parquet")], capture_output=True).stdout
+        found = [{name: str(value) for name, value in row.items() if name != "value"} for row in json.loads(told)]
+        wanted = [{name: value for name, value in row.items() if name != "value"} for row in self.table("parquet", "runs.csv")]
+        self.assertEqual(found, wanted)
+
+    def test_parquet_is_given_the_types_of_its_columns(self):
+        # a package that writes down how it is called
+        for name, text in FAKE_PYARROW.items():
+            os.makedirs(self.path("fake/pyarrow"), exist_ok=True)
+            self.write(f"fake/pyarrow/{name}", text)
+        self.write("plan.toml", self.small_plan())
+        ran = self.study("parquet", "--parquet", PYTHONPATH=self.path("fake"))
+        self.assertEqual(ran.returncode, 0, ran.stderr)
+        path, types = json.loads(self.read("parquet", "runs.parquet"))
+        self.assertEqual(path, self.path("parquet/runs.csv"))
+        text = dict.fromkeys(("cell", "service", "outcome", "section", "entity", "column"), "string")
+        self.assertEqual(types, {**text, "between": "int64", "replication": "int64", "seed": "int64", "value": "float64"})
+        self.assertEqual(set(types), set(self.table("parquet", "runs.csv")[0]))
 
     def test_a_study_that_is_stopped_goes_on(self):
         command = [os.path.join(ROOT, "tools", "study"), self.plan, "--to", self.path("stopped"), "--jobs", "1"]
