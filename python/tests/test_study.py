@@ -1,5 +1,7 @@
 """Studies: the same files whichever engine runs them, what goes wrong in between, and bad plans."""
+import contextlib
 import csv
+import io
 import json
 import os
 import signal
@@ -9,7 +11,7 @@ import time
 import unittest
 
 from common import DESK, ROOT, SEED, InFolder, tool
-from gpssbench import plan, seeds, stats
+from gpssbench import plan, seeds, stats, study
 from gpssbench.command import SYSTEM, Problem, has
 
 PLAN = """model = "desk.gps"
@@ -223,6 +225,20 @@ exec {os.environ['GPSSBENCH']} "$@"
         self.assertIn(f"{len(failed)} not COMPLETE".encode(), ran.stderr)
         cell = self.table("failed", "cells.csv")[0]
         self.assertEqual((int(cell["n"]), cell["of"], cell["mean"]), (40 - len(failed), "40", "1"))
+
+    def test_progress_counts_cells(self):
+        class Terminal(io.StringIO):
+            isatty = lambda self: True
+
+        with contextlib.redirect_stderr(Terminal()) as told:
+            # the first of three was made before, the second has two sessions
+            progress = study.Progress(3, ["b", "b", "c"])
+            for cell in ("b", "c", "b"):
+                progress.shown = 0.0
+                progress.step(cell)
+        lines = [line.split("  ")[0] for line in told.getvalue().split("\r")[1:]]
+        self.assertEqual(lines, ["1/3 cells", "2/3 cells", "3/3 cells"])
+        self.assertTrue(told.getvalue().endswith("  0 s, 0 s to go  "))
 
     def test_precision_adds_replications(self):
         self.write("plan.toml", PLAN.replace("replications = 40", 'replications = 8\nprecision = "4%"\nmost = 500')
