@@ -1,5 +1,6 @@
 """A model that is kept open: reports, edits, refusals, and a program that dies."""
 import os
+import shutil
 import signal
 import subprocess
 import sys
@@ -118,6 +119,23 @@ class OpenModel(InFolder):
 
     def test_peek_says_how_many_steps_there_are(self):
         self.assertEqual(self.open().peek(), 0)
+
+
+class Installed(InFolder):
+    def test_pip_installs_all_of_it_without_a_network(self):
+        missing = [it for it in ("pip", "setuptools", "wheel") if not has(it, SYSTEM)]
+        if missing:
+            self.skipTest(f"no package {', '.join(missing)}: an installation by pip")
+        shutil.copytree(os.path.join(ROOT, "python"), self.path("python"))
+        words = ["--no-index", "--no-build-isolation", "--no-deps", "--disable-pip-version-check", "--target", self.path("there")]
+        ran = subprocess.run([SYSTEM, "-m", "pip", "install", *words, self.path("python")], capture_output=True, timeout=100)
+        self.assertEqual(ran.returncode, 0, ran.stderr.decode()[-2000:])
+        names = lambda *folder: {
+            os.path.join(place, name).removeprefix(self.path(os.path.join(*folder)))
+            for place, _, files in os.walk(self.path(os.path.join(*folder)))
+            for name in files if not name.endswith(".pyc")
+        }
+        self.assertEqual(names("there", "gpssbench"), names("python", "gpssbench"))
 
 
 if __name__ == "__main__":
