@@ -32,6 +32,7 @@ class Prompts(InFolder):
         self.assertIn("    5   RELEASE CLERK\n", told)
         self.assertEqual(told.count("there is nothing to redo"), 1)
         self.assertEqual(told.count("there is nothing to undo"), 1)
+        self.assertIn("undone: horizon 500\n", self.ask("horizon 500", "undo"))
 
     def test_what_is_wrong_is_said(self):
         told = self.ask("change 5 ADVANCE 1.5", "hlep", "explain M3", "save /nowhere/x.gps", "report 1 9", "report 7")

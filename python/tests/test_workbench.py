@@ -194,6 +194,10 @@ try:
             ''', width)
             assert not cut, f"out of sight at {width}: {cut}"
             driver.save_screenshot(f"{folder}/{width}-{'dark' if dark else 'light'}.png")
+    find("#figures .wide").send_keys(Keys.ARROW_RIGHT)
+    until(lambda: driver.execute_script("return document.querySelector('#figures .wide').scrollLeft > 0"), "sideways by a key")
+    driver.execute_script("arguments[0].scrollIntoView()", find("#table"))
+    driver.save_screenshot(f"{folder}/400-figures.png")
     size(1280, False)
 
     # files stay in the folder

@@ -83,7 +83,6 @@ function showModel() {
     row.dataset.place = place + 1;
     const cell = make("td", "", "statement");
     cell.tabIndex = place === at ? 0 : -1;
-    cell.setAttribute("role", "button");
     cell.setAttribute("aria-label", `place ${place + 1}: ${it.text}${it.changed ? ", changed" : ""}`);
     for (const line of it.front.filter(Boolean)) cell.append(make("span", line + "\n", "comment"));
     cell.append(colored(it.text, it.verb));
