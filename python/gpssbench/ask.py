@@ -11,6 +11,7 @@
     compare [all]           what differs from the baseline, as paired differences
     list                    the statements with their places; `*` marks what differs from the baseline
     peek                    how many steps are kept, without a further one
+    try EDIT                how many steps of the first replication an edit would keep; it is not made
     explain CODE            what a code means, as L5 1 or HORIZON
     save FILE.gps           the model as a file, its comments kept; `save FILE.script` the edits so far
     help, quit
@@ -30,7 +31,7 @@ from .stats import Estimate, fixed
 
 COMMANDS = [
     "report", "show", "replicate", "change", "insert", "delete", "capacity", "seed", "drop", "horizon", "undo", "redo", "base",
-    "compare", "list", "peek", "explain", "save", "help", "quit",
+    "compare", "list", "peek", "try", "explain", "save", "help", "quit",
 ]
 HISTORY = os.path.expanduser("~/.gpssbench_history")
 
@@ -74,7 +75,7 @@ class Prompt:
         own = {
             "help": self.help, "report": self.report, "show": self.show, "undo": self.undo, "redo": self.redo,
             "base": self.base, "compare": self.compare, "list": self.listing, "peek": self.peek, "explain": self.explain,
-            "save": self.save,
+            "save": self.save, "try": self.trial,
         }.get(word)
         if own:
             own(rest)
@@ -151,6 +152,9 @@ class Prompt:
         told = [f"{replication}: {'known' if it is None else it}" for replication, it in steps.items()]
         print("steps that are kept, by replication: " + ", ".join(told))
 
+    def trial(self, rest: list[str]) -> None:
+        print(self.kept.trial(" ".join(rest), self.start()))
+
     def explain(self, rest: list[str]) -> None:
         code = " ".join(rest)
         if not code:
@@ -195,7 +199,7 @@ def words_for(kept: KeptModel, front: str, text: str) -> list[str]:
 
 
 # What stands in front of the statement of an edit, and what other commands name.
-STATEMENT = re.compile(r"(?i)\s*(?:change|insert)\s+(?:(?:before|after)\s+)?(?:[0-9]+|@/.*?/|@\w+)\s+")
+STATEMENT = re.compile(r"(?i)\s*(?:try\s+)?(?:change|insert)\s+(?:(?:before|after)\s+)?(?:[0-9]+|@/.*?/|@\w+)\s+")
 NAMED = {"capacity": "storage"}
 VERBS = frozenset(codes.statements.VERBS)
 

@@ -23,6 +23,8 @@ MAIN = {
 }
 
 
+# The edits that change what `list` shows.
+OF_STATEMENTS = ("change", "insert", "delete", "capacity")
 # A number of steps of each replication; None where it is not known.
 Steps = dict[int, int | None]
 
@@ -287,6 +289,28 @@ class KeptModel:
             self.bench.close()
             raise Ended("a START that counts the steps could not be deleted")
         return found
+
+    def trial(self, line: str, start: int) -> str:
+        """What an edit of a statement would keep, in words. It is made on a copy that runs the first replication anew, and
+        nothing changes here."""
+        if line.split(" ", 1)[0] not in OF_STATEMENTS:
+            raise Problem(f"what is tried begins with one of {', '.join(OF_STATEMENTS)}")
+        number, seed = next(iter(self.bench.replications.items()))
+        copy = KeptModel(self.path, seed, 1, text=self.model_text(), words=self.words)
+        try:
+            for told in [it for it in self.bench.script if it.startswith("horizon ")][-1:]:
+                copy.edit(told)
+            copy.bench.report(1, start)
+            whole = copy.recorded()[1]
+            copy.edit(line)
+            kept = copy.recorded()[1]
+        except Ended as why:
+            raise Problem(f"the program of the trial ended: {why}") from None
+        finally:
+            copy.bench.close()
+        if whole is None or kept is None:
+            return "what it would keep is not counted, since the run does not reach the end of the last START"
+        return f"it would keep {kept:,} of the {whole:,} steps of replication {number}"
 
     def reports(self, start: int, each: Callable[[int], None] | None = None) -> Reports:
         return self.bench.reports(start, each=each)

@@ -262,6 +262,9 @@ class Desk:
             raise Problem("the model is refused: mend its text first")
         elif word in ("edit", "undo", "redo"):
             self.edit(word, asked)
+        elif word == "try":
+            line = self.line_of(asked)
+            self.tell({"kind": "trial", "line": line, "text": self.kept.trial(line, self.start())})
         elif word == "count":
             count = asked.get("count")
             if not isinstance(count, int) or not len(self.kept.bench.replications) <= count <= 32:
@@ -289,17 +292,21 @@ class Desk:
         else:
             raise Problem(f"nothing is called {word}")
 
+    def line_of(self, asked: dict) -> str:
+        """The edit that is asked for."""
+        line = str(asked.get("line", "")).strip()
+        if line.split(" ")[0] not in script.EDITS or "\n" in line:
+            raise Problem(f"an edit begins with one of {', '.join(script.EDITS)}")
+        if not line.isascii():
+            raise Problem("a statement has plain letters, digits and signs")
+        return line
+
     def edit(self, word: str, asked: dict) -> None:
         if asked.get("seen") != self.kept.bench.version:
             self.tell(self.state())
             raise Problem("another tab has edited the model: look at it as it is now, and try again")
         if word == "edit":
-            line = str(asked.get("line", "")).strip()
-            if line.split(" ")[0] not in script.EDITS or "\n" in line:
-                raise Problem(f"an edit begins with one of {', '.join(script.EDITS)}")
-            if not line.isascii():
-                raise Problem("a statement has plain letters, digits and signs")
-            said = self.kept.edit(line)
+            said = self.kept.edit(self.line_of(asked))
         else:
             said = self.kept.undo() if word == "undo" else self.kept.redo()
         self.reports = None

@@ -9,7 +9,8 @@ import unittest
 from common import DESK, ROOT, SEED, InFolder, tool
 from gpssbench import offers
 from gpssbench.ask import words_for
-from gpssbench.kept_model import KeptModel, compare, cost
+from gpssbench.command import Problem
+from gpssbench.kept_model import KeptModel, Refused, compare, cost
 
 
 class Prompts(InFolder):
@@ -133,6 +134,25 @@ START 5
                          f"{sum(more.values()) - sum(all_steps.values()):,} made anew")
         kept.edit("seed 2 1474719581")
         self.assertEqual(kept.kept_steps(2), {1: None, 2: 0})
+
+    def test_an_edit_is_tried_before_it_is_made(self):
+        kept = KeptModel(self.write("desk.gps", DESK), SEED, 2, words={"every": 50})
+        self.addCleanup(kept.bench.close)
+        kept.reports(1)
+        whole = kept.recorded()
+        listed, version = kept.bench.list(), kept.bench.version
+        told = {line: kept.trial(line, 1) for line in ("insert 9 START 10", "change @Serve ADVANCE 150", "change 7 TERMINATE 2")}
+        self.assertEqual(told["insert 9 START 10"], f"it would keep {whole[1]:,} of the {whole[1]:,} steps of replication 1")
+        self.assertEqual(told["change @Serve ADVANCE 150"], f"it would keep 0 of the {whole[1]:,} steps of replication 1")
+        # nothing has changed, and what was told comes true
+        self.assertEqual((kept.bench.list(), kept.bench.version, kept.recorded()), (listed, version, whole))
+        kept.edit("change 7 TERMINATE 2")
+        self.assertIn(f"keep {kept.recorded()[1]:,} of the", told["change 7 TERMINATE 2"])
+        self.assertRaises(Refused, kept.trial, "change 5 ADVANCE 1.5", 1)
+        self.assertRaisesRegex(Problem, "begins with one of change", kept.trial, "drop 1", 1)
+        asked = self.ask("try change @Serve ADVANCE 150", "compare")
+        self.assertIn("it would keep 0 of the", asked)
+        self.assertIn("nothing differs", asked)
 
     def test_runs_that_never_end_are_not_counted(self):
         text = "GENERATE 10,,,1\nTRANSFER .5,,Round\nTERMINATE 1\nRound BUFFER\nTRANSFER ,Round\nSTART 1\n"

@@ -116,6 +116,15 @@ try:
         until(lambda: offered() == lines, typed)
     given.send_keys(Keys.ESCAPE)
 
+    # what an edit would keep is told before it is made
+    again(lambda: driver.find_elements(By.CSS_SELECTOR, "#model td.statement")[0].click())
+    given = find("#model input")
+    given.clear()
+    given.send_keys("Beds STORAGE 9", Keys.CONTROL, Keys.ENTER)
+    until(lambda: re.fullmatch("it would keep [0-9]+ of the [0-9]+ steps of replication 1", text("#model .trial")), "a trial")
+    given.send_keys(Keys.NULL, Keys.ESCAPE)
+    assert len(journal()) == 1 and "BEDS STORAGE 11" in text("#model"), journal()
+
     # the keyboard alone: down to a statement, a line after it, undo, redo
     first = lambda: driver.find_elements(By.CSS_SELECTOR, "#model td.statement")[0]
     again(lambda: first().send_keys(Keys.ARROW_DOWN, Keys.ARROW_DOWN, "a"))

@@ -21,7 +21,7 @@ function connect() {
   socket = new WebSocket(new URL("ws", location.href.replace(/^http/, "ws")));
   socket.onmessage = (event) => {
     const told = JSON.parse(event.data);
-    ({ state: showState, figures: showFigures, report: showReport, busy: showBusy, offer: showOffer, refused: showRefused, said: showSaid })[told.kind]?.(told);
+    ({ state: showState, figures: showFigures, report: showReport, busy: showBusy, offer: showOffer, trial: showTrial, refused: showRefused, said: showSaid })[told.kind]?.(told);
   };
   socket.onclose = () => {
     $("said").textContent = "The workbench does not answer; trying again.";
@@ -125,7 +125,7 @@ function begin(place, side) {
   input.addEventListener("keydown", (event) => {
     event.stopPropagation();
     if (event.key === "Escape") end();
-    if (event.key === "Enter") commit();
+    if (event.key === "Enter") (event.ctrlKey ? attempt : commit)();
   });
   input.addEventListener("input", askOffer);
   input.focus();
@@ -145,11 +145,27 @@ function end() {
   focusOn(at);
 }
 
+const begun = ({ place, side, input }) =>
+  (side === "change" ? `change ${place + 1} ` : `insert ${place + (side === "after" ? 2 : 1)} `) + input.value.trim();
+
 function commit() {
   const { place, side, input } = editing;
-  const text = input.value.trim();
-  if (side === "change" && text === state.statements[place].text) return end();
-  edit(side === "change" ? `change ${place + 1} ${text}` : `insert ${place + (side === "after" ? 2 : 1)} ${text}`);
+  if (side === "change" && input.value.trim() === state.statements[place].text) return end();
+  edit(begun(editing));
+}
+
+const attempt = () => ask({ do: "try", line: begun(editing) });
+function showTrial(told) {
+  if (!editing || begun(editing) !== told.line) return;
+  beside(told.text, "trial", "status");
+  editing.input.removeAttribute("aria-invalid");
+}
+
+function beside(text, name, role) {
+  document.querySelector(".beside")?.remove();
+  const says = make("div", text, `beside ${name}`);
+  says.setAttribute("role", role);
+  editing.input.after(says);
 }
 
 $("model").addEventListener("focusin", (event) => {
@@ -244,11 +260,8 @@ function showSaid(told) {
 function showRefused(told) {
   const text = `${told.code ? told.code + ": " : ""}${told.sentence}`;
   $("wrong").textContent = editing ? "" : text;
-  document.querySelector(".refusal")?.remove();
   if (editing) {
-    const says = make("div", text, "refusal");
-    says.setAttribute("role", "alert");
-    editing.input.after(says);
+    beside(text, "refusal", "alert");
     editing.input.setAttribute("aria-invalid", "true");
     editing.input.focus();
   }
