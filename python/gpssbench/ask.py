@@ -11,6 +11,7 @@
     compare [all]           what differs from the baseline, as paired differences
     list                    the statements with their places; `*` marks what differs from the baseline
     peek                    how many steps are kept, without a further one
+    try EDIT                how many steps of the first replication an edit would keep; it is not made
     explain CODE            what a code means, as L5 1 or HORIZON
     save FILE.gps           the model as a file, its comments kept; `save FILE.script` the edits so far
     help, quit
@@ -18,9 +19,10 @@
 The model as it was opened is the first baseline. On a terminal there are a history (~/.gpssbench_history) and completion by
 the tabulator; otherwise it reads its lines from standard input."""
 import os
+import re
 import sys
 
-from . import codes, script
+from . import codes, offers, script
 from .bench import Measure, NoReport, Refused, Reports
 from .command import Problem, Words
 from .kept_model import MAIN, KeptModel, compare, figures
@@ -29,7 +31,7 @@ from .stats import Estimate, fixed
 
 COMMANDS = [
     "report", "show", "replicate", "change", "insert", "delete", "capacity", "seed", "drop", "horizon", "undo", "redo", "base",
-    "compare", "list", "peek", "explain", "save", "help", "quit",
+    "compare", "list", "peek", "try", "explain", "save", "help", "quit",
 ]
 HISTORY = os.path.expanduser("~/.gpssbench_history")
 
@@ -73,7 +75,7 @@ class Prompt:
         own = {
             "help": self.help, "report": self.report, "show": self.show, "undo": self.undo, "redo": self.redo,
             "base": self.base, "compare": self.compare, "list": self.listing, "peek": self.peek, "explain": self.explain,
-            "save": self.save,
+            "save": self.save, "try": self.trial,
         }.get(word)
         if own:
             own(rest)
@@ -147,8 +149,11 @@ class Prompt:
 
     def peek(self, rest: list[str]) -> None:
         steps = self.kept.kept_steps(self.start())
-        told = [f"{replication}: {'known' if it is None else it}" for replication, it in zip(self.kept.bench.replications, steps)]
+        told = [f"{replication}: {'known' if it is None else it}" for replication, it in steps.items()]
         print("steps that are kept, by replication: " + ", ".join(told))
+
+    def trial(self, rest: list[str]) -> None:
+        print(self.kept.trial(" ".join(rest), self.start()))
 
     def explain(self, rest: list[str]) -> None:
         code = " ".join(rest)
@@ -171,21 +176,31 @@ def complete(prompt: Prompt):
     def found(text: str, state: int) -> str | None:
         import readline
 
-        first = readline.get_line_buffer()[: readline.get_begidx()].strip()
-        if not first:
-            words = COMMANDS
-        elif text.startswith("@"):
-            words = [f"@{script.label_of(it, VERBS)}" for it in prompt.kept.texts() if script.label_of(it, VERBS)]
-        elif first.split()[0] == "show":
-            words = [*prompt.kept.names_of(), *MAIN]
-        else:
-            words = [*prompt.kept.names_of(), *VERBS]
-        near = [it for it in words if it.lower().startswith(text.lower())]
+        near = words_for(prompt.kept, readline.get_line_buffer()[: readline.get_begidx()], text)
         return near[state] + " " if state < len(near) else None
 
     return found
 
 
+def words_for(kept: KeptModel, front: str, text: str) -> list[str]:
+    """The words that a text may become, after what stands in front of it."""
+    before, names = front.lower().split(), kept.names()
+    if statement := STATEMENT.match(front):
+        return offers.offered(names, front[statement.end() :] + text)[1]
+    if not before:
+        words = COMMANDS
+    elif text.startswith("@"):
+        words = [f"@{label}" for it in kept.texts() if (label := script.label_of(it, VERBS))]
+    elif before[0] == "show":
+        words = list(MAIN) if len(before) == 1 else names.get(before[1], [])
+    else:
+        words = names.get(NAMED.get(before[0], ""), [])
+    return [it for it in words if it.lower().startswith(text.lower())]
+
+
+# What stands in front of the statement of an edit, and what other commands name.
+STATEMENT = re.compile(r"(?i)\s*(?:try\s+)?(?:change|insert)\s+(?:(?:before|after)\s+)?(?:[0-9]+|@/.*?/|@\w+)\s+")
+NAMED = {"capacity": "storage"}
 VERBS = frozenset(codes.statements.VERBS)
 
 
@@ -198,7 +213,7 @@ def lines(prompt: Prompt):
         import readline
 
         readline.set_completer(complete(prompt))
-        readline.set_completer_delims(" \t,()")
+        readline.set_completer_delims(" \t,()+-#\\")
         readline.parse_and_bind("tab: complete")
         if os.path.exists(HISTORY):
             readline.read_history_file(HISTORY)

@@ -22,6 +22,9 @@ from .program import Ended, Model, Session
 from .seeds import RECOMMENDED
 from .stats import Estimate, differences, estimate, fixed
 
+# What stands in front of a row of a report where it stands alone, and the columns that hold names.
+FRONT = ["version", "replication", "seed", "outcome"]
+ENTITIES = ["NAME", "LABEL", "FACILITY", "QUEUE", "STORAGE", "TABLE"]
 PLURALS = {"facilities": "facility", "queues": "queue", "storages": "storage", "tables": "table", "blocks": "block"}
 
 
@@ -267,10 +270,13 @@ class Reports(list):
         return estimate(differences(by_run(base), by_run(self)), level)
 
     def rows(self, kind: str) -> list[dict[str, object]]:
-        """The rows of a kind of section, each with its replication."""
-        front = lambda it: {"version": it.version, "replication": it.replication, "seed": it.seed, "outcome": it.outcome}
+        """The rows of a kind of section, each with its replication. Names of entities are text, also where they are `2`."""
+        if kind not in KINDS:
+            raise Problem(f"no kind {kind}, but {', '.join(KINDS)}")
+        front = lambda it: dict(zip(FRONT, (it.version, it.replication, it.seed, it.outcome)))
+        value = lambda title, cell: cell or None if title in ENTITIES else value_of(cell)
         return [
-            {**front(report), **{title: value_of(cell) for title, cell in row.items()}}
+            {**front(report), **{title: value(title, cell) for title, cell in row.items()}}
             for report in self
             for row in report.kinds.get(kind, [])
         ]
@@ -281,7 +287,7 @@ class Reports(list):
             import pandas
         except ImportError:
             raise Problem("pandas is not here; rows() has the same as a list") from None
-        return pandas.DataFrame(self.rows(kind))
+        return pandas.DataFrame(self.rows(kind), columns=[*FRONT, *KINDS.get(kind, [])])
 
     def _repr_html_(self) -> str:
         titles = ["entity", "column", "n", "mean", "half-width", "least", "greatest"]
@@ -347,7 +353,7 @@ class Bench:
         first, _ = self.ask(line)
         if not first.startswith("ok "):
             raise self.refused(line, first)
-        self.version = int(first.split(" ")[1])
+        self.version += 1
         self.script.append(line)
         return self.version
 

@@ -91,10 +91,10 @@ def run(main: Callable[[list[str]], int | None], usage: str) -> None:
     sys.exit(status)
 
 
-# The Debian package of each Python package that is not part of Python.
+# The Debian package of each Python package that is not part of Python. Debian has no pyarrow.
 DEBIAN = {
     "distributed": "python3-distributed", "matplotlib": "python3-matplotlib", "jinja2": "python3-jinja2",
-    "tornado": "python3-tornado", "selenium": "python3-selenium", "pyarrow": "python3-pyarrow", "pandas": "python3-pandas",
+    "tornado": "python3-tornado", "selenium": "python3-selenium", "pandas": "python3-pandas",
 }
 SYSTEM = "/usr/bin/python3"
 
@@ -117,8 +117,9 @@ def with_packages(*packages: str) -> None:
     if is_other and all(has(package, SYSTEM) for package in packages):
         sys.stdout.flush()
         os.execve(SYSTEM, [SYSTEM, *sys.argv], {**os.environ, "GPSSBENCH_PYTHON": SYSTEM})
-    names = " ".join(DEBIAN.get(package, package) for package in missing)
-    raise Problem(f"{', '.join(missing)} is not here: python/install installs it, or `apt-get install {names}`")
+    of_debian = " ".join(DEBIAN[package] for package in missing if package in DEBIAN)
+    cure = f"python/install installs it, or `apt-get install {of_debian}`" if of_debian else f"`pip install {' '.join(missing)}`"
+    raise Problem(f"{', '.join(missing)} is not here: {cure}")
 
 
 def warn(text: str) -> None:

@@ -6,10 +6,11 @@ import re
 from collections.abc import Callable
 from dataclasses import dataclass, field
 
-from . import codes, script, statements
+from . import codes, offers, script, statements
 from .answers import KINDS
-from .bench import Bench, Measure, Refused, Reports
+from .bench import Bench, Measure, NoReport, Refused, Reports
 from .command import Problem
+from .program import Ended
 from .seeds import RECOMMENDED
 from .stats import Estimate, differences, estimate
 
@@ -20,6 +21,12 @@ MAIN = {
     "storage": ["UTIL.", "AVE.C.", "ENTRIES"],
     "table": ["MEAN", "STD.DEV."],
 }
+
+
+# The edits that change what `list` shows.
+OF_STATEMENTS = ("change", "insert", "delete", "capacity")
+# A number of steps of each replication; None where it is not known.
+Steps = dict[int, int | None]
 
 
 @dataclass
@@ -196,7 +203,7 @@ class KeptModel:
             return f"replicate {at + 1} {self.bench.replications[at + 1]}"
         if word == "horizon":
             told = [line for line, _ in self.done if line.startswith("horizon ")]
-            return told[-1] if told else f"horizon {self.words.get('horizon', 10**9)}"
+            return told[-1] if told else f"horizon {self.words.get('horizon') or 10**9}"
         return ""
 
     def follow(self, word: str, rest: list[str], before: list[str]) -> str:
@@ -258,13 +265,52 @@ class KeptModel:
     def starts(self) -> int:
         return sum(text.split()[0] == "START" for text in self.texts())
 
-    def kept_steps(self, start: int) -> list[int | None]:
-        """Of each replication how many steps are recorded; None where its report is known without another step."""
-        found = []
+    def kept_steps(self, start: int) -> Steps:
+        """Of each replication how many steps are recorded; None where its answer is known without another step."""
+        found: Steps = {}
         for replication in self.bench.replications:
-            answer = self.bench.peek(replication, start)
-            found.append(answer if isinstance(answer, int) else None)
+            try:
+                answer = self.bench.peek(replication, start)
+            except NoReport:
+                answer = None
+            found[replication] = answer if isinstance(answer, int) else None
         return found
+
+    def recorded(self) -> Steps:
+        """Of each replication how many steps are recorded; None where its run ended before the last START.
+
+        The program counts them for a START that is not reached. One that is added at the end keeps all steps, and so does
+        its deletion. Both are no edits of the script."""
+        place = len(self.statements) + 1
+        if not self.bench.ask(f"insert {place} START 1")[0].startswith("ok "):
+            return dict.fromkeys(self.bench.replications)
+        found = self.kept_steps(self.starts() + 1)
+        if not self.bench.ask(f"delete {place}")[0].startswith("ok "):
+            self.bench.close()
+            raise Ended("a START that counts the steps could not be deleted")
+        return found
+
+    def trial(self, line: str, start: int) -> str:
+        """What an edit of a statement would keep, in words. It is made on a copy that runs the first replication anew, and
+        nothing changes here."""
+        if line.split(" ", 1)[0] not in OF_STATEMENTS:
+            raise Problem(f"what is tried begins with one of {', '.join(OF_STATEMENTS)}")
+        number, seed = next(iter(self.bench.replications.items()))
+        copy = KeptModel(self.path, seed, 1, text=self.model_text(), words=self.words)
+        try:
+            for told in [it for it in self.bench.script if it.startswith("horizon ")][-1:]:
+                copy.edit(told)
+            copy.bench.report(1, start)
+            whole = copy.recorded()[1]
+            copy.edit(line)
+            kept = copy.recorded()[1]
+        except Ended as why:
+            raise Problem(f"the program of the trial ended: {why}") from None
+        finally:
+            copy.bench.close()
+        if whole is None or kept is None:
+            return "what it would keep is not counted, since the run does not reach the end of the last START"
+        return f"it would keep {kept:,} of the {whole:,} steps of replication {number}"
 
     def reports(self, start: int, each: Callable[[int], None] | None = None) -> Reports:
         return self.bench.reports(start, each=each)
@@ -301,9 +347,21 @@ class KeptModel:
                 self.known_baseline = key, other.reports(start, each=each)
         return self.known_baseline[1]
 
-    def names_of(self) -> list[str]:
-        """The names that one may complete: labels and entities."""
-        return sorted({name for it in codes.read(self.texts()) for name in it.names()})
+    def names(self) -> offers.Names:
+        """The names that one may complete, by kind: labels and entities."""
+        return offers.names_of(codes.read(self.texts()))
+
+
+def cost(kept: Steps, recorded: Steps) -> str:
+    """What an edit cost: how many steps stood before the reports were made, of those that are recorded after that."""
+    counted = {replication: steps for replication, steps in recorded.items() if steps is not None}
+    if not counted:
+        return "the steps are not counted, since no run reaches the end of the last START"
+    all_steps = sum(counted.values())
+    stood = sum(steps if kept.get(it, 0) is None else kept.get(it, 0) for it, steps in counted.items())
+    told = f"{stood:,} of {all_steps:,} steps were kept, and {all_steps - stood:,} made anew"
+    of = "" if len(counted) == len(recorded) else f", in {len(counted)} of {len(recorded)} replications"
+    return told + of
 
 
 def figures(reports: Reports, everything: bool = False) -> list[tuple[Measure, Estimate | None]]:
@@ -329,4 +387,4 @@ def compare(before: Reports, now: Reports, everything: bool = False) -> list[Dif
     return found
 
 
-__all__ = ["Difference", "KeptModel", "Refused", "compare", "figures"]
+__all__ = ["Difference", "KeptModel", "Refused", "compare", "cost", "figures"]

@@ -15,6 +15,11 @@ OF_ENTITIES = ("facility", "queue", "storage", "table")
 LEFT_OUT = ("TOOLONG", "NOSTART", "MEMORY", "ERROR")
 
 
+def is_whole(level: str) -> bool:
+    """Whether a level of a factor is a whole number, as a column of these has them."""
+    return level.removeprefix("-").isdecimal() and len(level) < 19
+
+
 def row_of(kind: str, cells: list[str]) -> dict[str, str]:
     return dict(zip(KINDS[kind], cells))
 
@@ -204,10 +209,16 @@ def classes_of(study) -> Iterator[list[str]]:
             yield [cell.name, name, above.strip("_"), to.strip("_"), str(count)]
 
 
-def write_parquet(folder: str) -> None:
-    """runs.csv as runs.parquet."""
+def write_parquet(folder: str, factors: dict[str, list[str]]) -> None:
+    """runs.csv as runs.parquet. Each column has its type from the plan, and not by the rows that come first."""
+    import pyarrow
     import pyarrow.csv
     import pyarrow.parquet
 
-    table = pyarrow.csv.read_csv(os.path.join(folder, "runs.csv"))
+    whole, text = pyarrow.int64(), pyarrow.string()
+    types = {name: whole if all(map(is_whole, levels)) else text for name, levels in factors.items()}
+    types |= dict.fromkeys(("cell", "outcome", "section", "entity", "column"), text)
+    types |= {"replication": whole, "seed": whole, "value": pyarrow.float64()}
+    options = pyarrow.csv.ConvertOptions(column_types=types)
+    table = pyarrow.csv.read_csv(os.path.join(folder, "runs.csv"), convert_options=options)
     pyarrow.parquet.write_table(table, os.path.join(folder, "runs.parquet"))

@@ -22,7 +22,8 @@ import os
 import shutil
 import sys
 import time
-from collections.abc import Callable
+from collections import Counter
+from collections.abc import Callable, Iterable
 
 from . import results
 from .bench import Measure
@@ -39,19 +40,24 @@ FEW = 10
 
 
 class Progress:
-    """A line on standard error while that is a terminal: what is done, how long it took and how long it may take yet."""
+    """A line on standard error while that is a terminal: how many cells are done, how long it took and how long it may take
+    yet. A cell is done with its last session, and the time to go is by sessions."""
 
-    def __init__(self, of: int):
-        self.of, self.done, self.began, self.shown = of, 0, time.monotonic(), 0.0
+    def __init__(self, cells: int, sessions: Iterable[str]):
+        self.cells, self.left = cells, Counter(sessions)
+        self.of, self.done, self.began, self.shown = self.left.total(), 0, time.monotonic(), 0.0
         self.is_shown = sys.stderr.isatty()
 
-    def step(self, count: int = 1) -> None:
-        self.done += count
+    def step(self, cell: str) -> None:
+        """A session of a cell is done."""
+        self.done += 1
+        self.left -= Counter([cell])
         now = time.monotonic()
         if self.is_shown and (now - self.shown > 0.2 or self.done == self.of):
             took = now - self.began
-            left = took / self.done * (self.of - self.done) if self.done else 0
-            print(f"\r{self.done}/{self.of} sessions  {took:.0f} s, {left:.0f} s to go  ", end="", file=sys.stderr, flush=True)
+            to_go = took / self.done * (self.of - self.done)
+            cells = f"{self.cells - len(self.left)}/{self.cells} cells"
+            print(f"\r{cells}  {took:.0f} s, {to_go:.0f} s to go  ", end="", file=sys.stderr, flush=True)
             self.shown = now
 
     def end(self) -> None:
@@ -133,11 +139,11 @@ class Study:
         """Runs what is not there yet."""
         chunks = self.chunks(wanted)
         places = {cell.name: at for at, cell in enumerate(self.plan.cells)}
-        progress = Progress(len(chunks))
+        progress = Progress(len(self.plan.cells), (chunk["cell"] for chunk in chunks))
         try:
             for part in self.run(chunks):
                 self.parts.put(places[part["cell"]], part)
-                progress.step()
+                progress.step(part["cell"])
         finally:
             progress.end()
         self.counts = dict(wanted)
@@ -237,7 +243,7 @@ def main(words: list[str]) -> int:
     study.warn_of_draws()
     runs, failed, without = results.write(study, folder)
     if "--parquet" in read_words.flags:
-        results.write_parquet(folder)
+        results.write_parquet(folder, plan.factors)
     shutil.rmtree(study.parts.folder)
     for name in without:
         warn(f"no run has a figure of {name} = \"{plan.measures[name]}\"")

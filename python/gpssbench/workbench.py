@@ -1,6 +1,6 @@
 """A model that is kept open, in a browser.
 
-    tools/workbench MODEL [SCRIPT] [--port 8080] [--replications 8] [--seed S] [--start K]
+    tools/workbench MODEL [SCRIPT] [--port 8080] [--replications 8] [--seed S] [--start K] [--every N]
 
 It prints an address with a token, and serves it to this machine alone. On the left stand the statements of the model, with
 the counts of their blocks; a click or Enter edits a line, `i` inserts before it, `a` after it, Delete deletes it. On the
@@ -22,14 +22,15 @@ import time
 import traceback
 from concurrent.futures import ThreadPoolExecutor
 
-from . import codes, script
+from . import codes, offers, script
 from .bench import NoReport, Refused, Report, Reports
 from .command import Problem, Words, lines_of, with_packages
-from .kept_model import KeptModel, compare, figures
+from .kept_model import KeptModel, Steps, compare, cost, figures
 from .program import Ended
 from .stats import Estimate, fixed
 
 HERE = os.path.join(os.path.dirname(os.path.abspath(__file__)), "browser")
+MOST_OFFERED = 50
 NAME = re.compile(r"[A-Za-z0-9][A-Za-z0-9_.-]{0,99}")
 FILES = {"": ("index.html", "text/html"), "app.js": ("app.js", "text/javascript"), "app.css": ("app.css", "text/css")}
 
@@ -44,16 +45,21 @@ class Desk:
     """The model that is open, and what is known of it. Its calls are made one at a time, by one thread."""
 
     def __init__(
-        self, path: str, seed: int, replications: int, start: int | None, tell, lines: list[script.Line] = ()
+        self, path: str, seed: int, replications: int, start: int | None, tell, lines: list[script.Line] = (),
+        words: dict[str, int] | None = None,
     ):
         self.path, self.seed, self.replications, self.asked_start = os.path.abspath(path), seed, replications, start
         self.folder = os.path.dirname(self.path)
-        self.tell = tell
+        self.tell, self.words = tell, words or {}
         self.kept: KeptModel | None = None
         self.fault: dict | None = None
         self.reports: Reports | None = None
         self.gives_up = False
         self.since, self.done = 0.0, 0
+        # the steps of the last simulation, and in words how many of them the present one keeps
+        self.recorded: Steps = {}
+        self.keeps = ""
+        self.names: offers.Names = {}
         is_new = not os.path.exists(self.path + ".edits")
         self.open()
         for line in lines if self.kept and is_new else ():
@@ -71,8 +77,9 @@ class Desk:
         """Opens the model's file with the edits that were made, or keeps why it is refused."""
         self.close()
         self.fault = self.reports = None
+        self.recorded = {}
         try:
-            self.kept = KeptModel(self.path, self.seed, self.replications, self.path + ".edits")
+            self.kept = KeptModel(self.path, self.seed, self.replications, self.path + ".edits", words=self.words)
         except Refused as why:
             self.refused_model(why, self.text())
         except Problem as why:
@@ -105,7 +112,7 @@ class Desk:
         found = {"kind": "state", "file": os.path.basename(self.path), "files": files, "fault": self.fault}
         if self.kept is None:
             return {**found, "version": -1, "statements": []}
-        counts = self.counts()
+        counts, self.names = self.counts(), self.kept.names()
         rows, position = [], 0
         for it, differs in zip(self.kept.statements, self.kept.changed()):
             words = it.text.split("|")[0].split(" ")
@@ -118,8 +125,7 @@ class Desk:
                 "counts": counts.get(str(position)) if is_block else None,
             })
         return {
-            **found, "version": self.kept.bench.version, "statements": rows, "names": self.kept.names_of(),
-            "verbs": codes.statements.VERBS, "script": self.kept.bench.script, "replications": self.kept.bench.replications,
+            **found, "version": self.kept.bench.version, "statements": rows, "script": self.kept.bench.script, "replications": self.kept.bench.replications,
             "named": list(self.kept.named), "pinned": self.kept.pinned,
             "undo": bool(self.kept.done and self.kept.done[-1][1]), "redo": bool(self.kept.undone),
         }
@@ -179,13 +185,11 @@ class Desk:
         self.since, self.done = time.monotonic(), 0
         try:
             kept = self.kept.kept_steps(self.start())
+            self.keeps = self.kept_so_far(kept)
             self.reports = self.kept.reports(self.start(), self.progress)
             shown = self.shown()
-            fresh = [it for it in kept if it is not None]
-            went_on = [steps for steps in fresh if steps]
-            shown["cost"] = "nothing had to be simulated" if not fresh else "no step was kept" if not went_on else (
-                f"{sum(went_on):,} steps were kept, in {len(went_on)} of {len(fresh)} replications that were simulated"
-            )
+            self.recorded = self.kept.recorded()
+            shown["cost"] = cost(kept, self.recorded)
             shown["seconds"] = round(time.monotonic() - self.since, 2)
             self.tell(self.state())
             self.tell(shown)
@@ -195,6 +199,12 @@ class Desk:
             self.tell({"kind": "figures", "rows": [], "missing": [str(why)], "classes": {}, "start": self.start()})
         finally:
             self.since = 0.0
+
+    def kept_so_far(self, kept: Steps) -> str:
+        """How many of the steps that were recorded before an edit are kept; nothing where none were."""
+        before = sum(steps or 0 for steps in self.recorded.values())
+        stand = sum(self.recorded.get(it) or 0 if steps is None else steps for it, steps in kept.items())
+        return f"{stand:,} of {before:,} steps are kept" if before else ""
 
     def ask(self, asked: dict) -> None:
         """Does what a tab asks; what is wrong with it is told."""
@@ -252,6 +262,9 @@ class Desk:
             raise Problem("the model is refused: mend its text first")
         elif word in ("edit", "undo", "redo"):
             self.edit(word, asked)
+        elif word == "try":
+            line = self.line_of(asked)
+            self.tell({"kind": "trial", "line": line, "text": self.kept.trial(line, self.start())})
         elif word == "count":
             count = asked.get("count")
             if not isinstance(count, int) or not len(self.kept.bench.replications) <= count <= 32:
@@ -279,17 +292,21 @@ class Desk:
         else:
             raise Problem(f"nothing is called {word}")
 
+    def line_of(self, asked: dict) -> str:
+        """The edit that is asked for."""
+        line = str(asked.get("line", "")).strip()
+        if line.split(" ")[0] not in script.EDITS or "\n" in line:
+            raise Problem(f"an edit begins with one of {', '.join(script.EDITS)}")
+        if not line.isascii():
+            raise Problem("a statement has plain letters, digits and signs")
+        return line
+
     def edit(self, word: str, asked: dict) -> None:
         if asked.get("seen") != self.kept.bench.version:
             self.tell(self.state())
             raise Problem("another tab has edited the model: look at it as it is now, and try again")
         if word == "edit":
-            line = str(asked.get("line", "")).strip()
-            if line.split(" ")[0] not in script.EDITS or "\n" in line:
-                raise Problem(f"an edit begins with one of {', '.join(script.EDITS)}")
-            if not line.isascii():
-                raise Problem("a statement has plain letters, digits and signs")
-            said = self.kept.edit(line)
+            said = self.kept.edit(self.line_of(asked))
         else:
             said = self.kept.undo() if word == "undo" else self.kept.redo()
         self.reports = None
@@ -332,7 +349,7 @@ class Desk:
     def write_text(self, text: str) -> None:
         """A model that was refused, mended: it is written once the program takes it."""
         try:
-            KeptModel(self.path, self.seed, 1, text=text).bench.close()
+            KeptModel(self.path, self.seed, 1, text=text, words=self.words).bench.close()
         except Refused as why:
             self.refused_model(why, text)
             self.tell(self.state())
@@ -345,6 +362,11 @@ class Desk:
         self.open()
         self.tell(self.state())
         self.simulate()
+
+    def offer(self, typed: str) -> dict:
+        """What a statement that is being typed may go on as; asked from beside."""
+        front, words = offers.offered(self.names, typed)
+        return {"kind": "offer", "typed": typed, "lines": [front + it for it in words[:MOST_OFFERED]]}
 
     def give_up(self) -> None:
         """Ends the program that simulates; called from beside."""
@@ -420,6 +442,8 @@ def application(desk_of, token: str, hosts: set[str]):
                 return
             if asked.get("do") == "give up":
                 desk.give_up()
+            elif asked.get("do") == "offer":
+                self.write_message(json.dumps(desk.offer(str(asked.get("typed", "")))))
             else:
                 worker.submit(desk.ask, asked)
 
@@ -435,13 +459,13 @@ def application(desk_of, token: str, hosts: set[str]):
             seconds = time.monotonic() - desk.since
             if seconds > 0.15:
                 of = len(desk.kept.bench.replications) if desk.kept else 0
-                tell({"kind": "busy", "done": desk.done, "of": of, "seconds": round(seconds, 1)})
+                tell({"kind": "busy", "done": desk.done, "of": of, "seconds": round(seconds, 1), "keeps": desk.keeps})
 
     return web.Application([(r"/([^/]+)/ws", Tab), (r"/([^/]+)/([a-z.]*)", Page)]), desk, pulse
 
 
 def main(words: list[str]) -> int:
-    read = Words(words, "--port --replications --seed --start")
+    read = Words(words, "--port --replications --seed --start --every")
     if len(read.rest) not in (1, 2):
         raise Problem("a MODEL is wanted; --help shows how")
     with open(read.rest[0], "rb"):
@@ -450,6 +474,7 @@ def main(words: list[str]) -> int:
     port = read.number("--port", 8080, 1, 65535)
     seed = read.number("--seed", 1945846388, 1, 2147483646)
     count, start = read.number("--replications", 8, 1, 32), read.number("--start", None, 1, 10**9)
+    every = read.number("--every", None, 1, 10**6)
     with_packages("tornado")
     import asyncio
     import logging
@@ -461,7 +486,7 @@ def main(words: list[str]) -> int:
     async def serve() -> None:
         token = secrets.token_urlsafe(24)
         hosts = {f"127.0.0.1:{port}", f"localhost:{port}"}
-        desk_of = lambda tell: Desk(read.rest[0], seed, count, start, tell, lines)
+        desk_of = lambda tell: Desk(read.rest[0], seed, count, start, tell, lines, {"every": every})
         app, desk, pulse = application(desk_of, token, hosts)
         try:
             server = app.listen(port, address="127.0.0.1")

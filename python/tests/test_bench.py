@@ -1,10 +1,31 @@
 """A model that is kept open: reports, edits, refusals, and a program that dies."""
 import os
+import shutil
 import signal
+import subprocess
+import sys
 import unittest
 
 from common import DESK, ROOT, SEED, InFolder
 from gpssbench import Bench, Ended, NoReplication, NoStart, Problem, Refused, TooLong
+from gpssbench.command import SYSTEM, has
+
+# What a Python with pandas is asked.
+FRAME = """
+import sys
+from gpssbench import Bench
+
+with Bench(sys.argv[1], seed=1945846388) as bench:
+    bench.replicate(4)
+    reports = bench.reports()
+    queues, blocks, none = map(reports.frame, ("queue", "block", "table"))
+assert list(queues["AVE.TIME"]) == list(reports.queues["LINE"].ave_time), queues
+assert list(queues.replication) == [1, 2, 3, 4] and set(queues.QUEUE) == {"LINE"}, queues
+assert queues["AVE.TIME"].dtype == "float64" and queues.ENTRY.dtype == "int64", queues.dtypes
+assert len(blocks) == 4 * 7 and list(blocks[blocks.LABEL == "SERVE"].LOC) == [5] * 4, blocks
+assert len(none) == 0 and list(none)[4:] == ["TABLE", "MEAN", "STD.DEV.", "RETRY", "VALUES"], none
+print("framed")
+"""
 
 
 class OpenModel(InFolder):
@@ -82,8 +103,39 @@ class OpenModel(InFolder):
         with self.assertRaisesRegex(Ended, "no such file"):
             Bench(self.path("none.gps")).list()
 
+    def test_rows_have_names_as_text(self):
+        reports = self.open(DESK.replace("Line", "2")).reports()
+        self.assertEqual([(row["QUEUE"], row["CONT."], row["replication"]) for row in reports.rows("queue")], [("2", 1, 1)])
+        with self.assertRaisesRegex(Problem, "no kind queues, but head, name, block"):
+            reports.rows("queues")
+
+    def test_a_frame_has_the_rows(self):
+        python = next((it for it in (sys.executable, SYSTEM) if has("pandas", it)), None)
+        if python is None:
+            self.skipTest("no package pandas: Reports.frame()")
+        ran = subprocess.run([python, "-c", FRAME, self.write("desk.gps", DESK)], capture_output=True, timeout=60,
+                             env={**os.environ, "PYTHONPATH": os.path.join(ROOT, "python")})
+        self.assertEqual((ran.returncode, ran.stdout), (0, b"framed\n"), ran.stderr.decode())
+
     def test_peek_says_how_many_steps_there_are(self):
         self.assertEqual(self.open().peek(), 0)
+
+
+class Installed(InFolder):
+    def test_pip_installs_all_of_it_without_a_network(self):
+        missing = [it for it in ("pip", "setuptools", "wheel") if not has(it, SYSTEM)]
+        if missing:
+            self.skipTest(f"no package {', '.join(missing)}: an installation by pip")
+        shutil.copytree(os.path.join(ROOT, "python"), self.path("python"))
+        words = ["--no-index", "--no-build-isolation", "--no-deps", "--disable-pip-version-check", "--target", self.path("there")]
+        ran = subprocess.run([SYSTEM, "-m", "pip", "install", *words, self.path("python")], capture_output=True, timeout=100)
+        self.assertEqual(ran.returncode, 0, ran.stderr.decode()[-2000:])
+        names = lambda *folder: {
+            os.path.join(place, name).removeprefix(self.path(os.path.join(*folder)))
+            for place, _, files in os.walk(self.path(os.path.join(*folder)))
+            for name in files if not name.endswith(".pyc")
+        }
+        self.assertEqual(names("there", "gpssbench"), names("python", "gpssbench"))
 
 
 if __name__ == "__main__":

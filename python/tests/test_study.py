@@ -1,5 +1,7 @@
 """Studies: the same files whichever engine runs them, what goes wrong in between, and bad plans."""
+import contextlib
 import csv
+import io
 import json
 import os
 import signal
@@ -9,7 +11,7 @@ import time
 import unittest
 
 from common import DESK, ROOT, SEED, InFolder, tool
-from gpssbench import plan, seeds, stats
+from gpssbench import plan, seeds, stats, study
 from gpssbench.command import SYSTEM, Problem, has
 
 PLAN = """model = "desk.gps"
@@ -26,6 +28,21 @@ busy = "facility CLERK UTIL."
 """
 # Half of the replications never end.
 ENDLESS = "GENERATE 10,,,1\nQUEUE Line\nTRANSFER .5,,Round\nDEPART Line\nTERMINATE 1\nRound BUFFER\nTRANSFER ,Round\nSTART 1\n"
+
+
+FAKE_PYARROW = {
+    "__init__.py": "int64, string, float64 = (lambda name=name: name for name in ('int64', 'string', 'float64'))\n",
+    "csv.py": """class ConvertOptions:
+    def __init__(self, column_types):
+        self.column_types = column_types
+read_csv = lambda path, convert_options: (path, convert_options.column_types)
+""",
+    "parquet.py": """import json
+def write_table(table, path):
+    with open(path, "w") as file:
+        json.dump(table, file)
+""",
+}
 
 
 class Studies(InFolder):
@@ -130,6 +147,37 @@ class Studies(InFolder):
         wrong = self.study("none", "--on", "tcp://127.0.0.1:9")
         self.assertEqual((wrong.returncode, b"no scheduler answers" in wrong.stderr), (2, True), wrong.stderr)
 
+    def small_plan(self):
+        return PLAN.replace("replications = 40", "replications = 4").replace(', "150,40", "140,40", "130,40"', "").replace(", 200", "")
+
+    def test_parquet_has_the_rows_of_runs(self):
+        python = next((it for it in (sys.executable, SYSTEM) if has("pyarrow", it)), None)
+        if python is None:
+            ran = self.study("none", "--parquet")
+            self.assertEqual((ran.returncode, ran.stderr), (2, b"tools/study: pyarrow is not here: `pip install pyarrow`\n"))
+            self.skipTest("no package pyarrow: tools/study --parquet")
+        self.write("plan.toml", self.small_plan())
+        self.assertEqual(self.study("parquet", "--parquet").returncode, 0)
+        code = "import json, sys, pyarrow.parquet as p; print(json.dumps(p.read_table(sys.argv[1]).to_pylist()))"
+        told = subprocess.run([python, "-c", code, self.path("parquet/runs.parquet")], capture_output=True).stdout
+        found = [{name: str(value) for name, value in row.items() if name != "value"} for row in json.loads(told)]
+        wanted = [{name: value for name, value in row.items() if name != "value"} for row in self.table("parquet", "runs.csv")]
+        self.assertEqual(found, wanted)
+
+    def test_parquet_is_given_the_types_of_its_columns(self):
+        # a package that writes down how it is called
+        for name, text in FAKE_PYARROW.items():
+            os.makedirs(self.path("fake/pyarrow"), exist_ok=True)
+            self.write(f"fake/pyarrow/{name}", text)
+        self.write("plan.toml", self.small_plan())
+        ran = self.study("parquet", "--parquet", PYTHONPATH=self.path("fake"))
+        self.assertEqual(ran.returncode, 0, ran.stderr)
+        path, types = json.loads(self.read("parquet", "runs.parquet"))
+        self.assertEqual(path, self.path("parquet/runs.csv"))
+        text = dict.fromkeys(("cell", "service", "outcome", "section", "entity", "column"), "string")
+        self.assertEqual(types, {**text, "between": "int64", "replication": "int64", "seed": "int64", "value": "float64"})
+        self.assertEqual(set(types), set(self.table("parquet", "runs.csv")[0]))
+
     def test_a_study_that_is_stopped_goes_on(self):
         command = [os.path.join(ROOT, "tools", "study"), self.plan, "--to", self.path("stopped"), "--jobs", "1"]
         study = subprocess.Popen(command, stderr=subprocess.PIPE)
@@ -177,6 +225,20 @@ exec {os.environ['GPSSBENCH']} "$@"
         self.assertIn(f"{len(failed)} not COMPLETE".encode(), ran.stderr)
         cell = self.table("failed", "cells.csv")[0]
         self.assertEqual((int(cell["n"]), cell["of"], cell["mean"]), (40 - len(failed), "40", "1"))
+
+    def test_progress_counts_cells(self):
+        class Terminal(io.StringIO):
+            isatty = lambda self: True
+
+        with contextlib.redirect_stderr(Terminal()) as told:
+            # the first of three was made before, the second has two sessions
+            progress = study.Progress(3, ["b", "b", "c"])
+            for cell in ("b", "c", "b"):
+                progress.shown = 0.0
+                progress.step(cell)
+        lines = [line.split("  ")[0] for line in told.getvalue().split("\r")[1:]]
+        self.assertEqual(lines, ["1/3 cells", "2/3 cells", "3/3 cells"])
+        self.assertTrue(told.getvalue().endswith("  0 s, 0 s to go  "))
 
     def test_precision_adds_replications(self):
         self.write("plan.toml", PLAN.replace("replications = 40", 'replications = 8\nprecision = "4%"\nmost = 500')

@@ -1,6 +1,7 @@
 """The workbench in a browser: edits, refusals, two tabs, a program that dies, and who may come in."""
 import http.client
 import os
+import re
 import shutil
 import signal
 import socket
@@ -14,7 +15,7 @@ from gpssbench.command import SYSTEM, has
 
 # What the browser is asked, run by the Python that has Selenium.
 BROWSE = """
-import json, os, signal, subprocess, sys, time
+import json, os, re, signal, subprocess, sys, time
 from selenium import webdriver
 from selenium.common.exceptions import StaleElementReferenceException
 from selenium.webdriver.common.by import By
@@ -92,6 +93,10 @@ try:
     assert journal() == ["change 1 Beds STORAGE 11"], journal()
     until(lambda: "BEDS STORAGE 10 -> BEDS STORAGE 11" in text("#said"), "what was replaced")
     assert find("#model tr.changed").text.startswith("1"), "what differs is marked"
+    kept = re.search(r"([0-9,]+) of ([0-9,]+) steps were kept, and ([0-9,]+) made anew", text("#about"))
+    stood, whole, anew = (int(it.replace(",", "")) for it in kept.groups())
+    assert 0 < stood < whole and stood + anew == whole, kept
+    driver.save_screenshot(f"{folder}/edited.png")
 
     # a refusal stands beside its statement, and changes nothing
     change(7, "ADVANCE 1.5")
@@ -101,6 +106,24 @@ try:
     change(7, "<script>alert(1)</script> ADVANCE 5")
     until(lambda: "&lt;script" in find("#model .refusal").get_attribute("innerHTML").lower(), "a label that is HTML")
     find("#model input").send_keys(Keys.ESCAPE)
+
+    # names are offered by their place
+    again(lambda: driver.find_elements(By.CSS_SELECTOR, "#model td.statement")[4].click())
+    given, offered = find("#model input"), lambda: [it.get_attribute("value") for it in driver.find_elements(By.CSS_SELECTOR, "#words option")]
+    for typed, lines in (("DEPART ", ["DEPART URGENT", "DEPART WAITING"]), ("ENTER B", ["ENTER BEDS"])):
+        given.clear()
+        given.send_keys(typed)
+        until(lambda: offered() == lines, typed)
+    given.send_keys(Keys.ESCAPE)
+
+    # what an edit would keep is told before it is made
+    again(lambda: driver.find_elements(By.CSS_SELECTOR, "#model td.statement")[0].click())
+    given = find("#model input")
+    given.clear()
+    given.send_keys("Beds STORAGE 9", Keys.CONTROL, Keys.ENTER)
+    until(lambda: re.fullmatch("it would keep [0-9]+ of the [0-9]+ steps of replication 1", text("#model .trial")), "a trial")
+    given.send_keys(Keys.NULL, Keys.ESCAPE)
+    assert len(journal()) == 1 and "BEDS STORAGE 11" in text("#model"), journal()
 
     # the keyboard alone: down to a statement, a line after it, undo, redo
     first = lambda: driver.find_elements(By.CSS_SELECTOR, "#model td.statement")[0]
@@ -114,7 +137,7 @@ try:
     until(lambda: "queue ALL" in text("#table"), "redo")
     press("u")
     until(lambda: "queue ALL" not in text("#table"), "undo again")
-    find("#pin").click()
+    press("p")
     until(lambda: "Differences are to version" in text("#about"), "a baseline")
     until(lambda: not driver.find_elements(By.CSS_SELECTOR, "#model tr.changed"), "nothing differs from it")
 
@@ -127,7 +150,7 @@ try:
     until(lambda: "Differences are to eleven beds" in text("#about"), "the one with a name")
 
     # the report is the program's, byte for byte
-    find("#tab-report").click()
+    find("#tab-figures").send_keys(Keys.ARROW_RIGHT)
     until(lambda: text("#bytes").startswith("REPLICATION 1 SEED 1945846388"), "a report")
     kept = open(os.path.join(folder, "ward.gps.edits")).read().strip().split("\\n")
     assert "# eleven beds" in kept, kept
@@ -174,7 +197,16 @@ try:
             time.sleep(0.2)
             wide = driver.execute_script("return document.documentElement.scrollWidth")
             assert wide <= width, f"{wide} of {width}"
+            cut = driver.execute_script('''
+                return [...document.querySelectorAll("button, input, select")].map((it) => [it.id, it.getBoundingClientRect()])
+                    .filter(([id, box]) => box.left < 0 || box.right > arguments[0]).map(([id]) => id);
+            ''', width)
+            assert not cut, f"out of sight at {width}: {cut}"
             driver.save_screenshot(f"{folder}/{width}-{'dark' if dark else 'light'}.png")
+    find("#figures .wide").send_keys(Keys.ARROW_RIGHT)
+    until(lambda: driver.execute_script("return document.querySelector('#figures .wide').scrollLeft > 0"), "sideways by a key")
+    driver.execute_script("arguments[0].scrollIntoView()", find("#table"))
+    driver.save_screenshot(f"{folder}/400-figures.png")
     size(1280, False)
 
     # files stay in the folder
@@ -260,6 +292,18 @@ print("heard")
 """
 
 
+def contrast(one, other):
+    """The contrast of two colours, by WCAG 2."""
+
+    def light(colour):
+        parts = [int(colour[at : at + 2], 16) / 255 for at in (1, 3, 5)]
+        return sum(share * (it / 12.92 if it <= 0.04045 else ((it + 0.055) / 1.055) ** 2.4)
+                   for share, it in zip((0.2126, 0.7152, 0.0722), parts))
+
+    least, most = sorted((light(one), light(other)))
+    return (most + 0.05) / (least + 0.05)
+
+
 class Workbench(InFolder):
     def setUp(self):
         super().setUp()
@@ -322,6 +366,16 @@ class Workbench(InFolder):
         self.assertIn(f"0100007F:{self.port:04X} 00000000:0000 0A", listening)
         self.assertNotIn(f"00000000:{self.port:04X} 00000000:0000 0A", listening)
 
+    def test_colours_can_be_told_apart(self):
+        with open(os.path.join(ROOT, "python", "gpssbench", "browser", "app.css")) as file:
+            themes = re.findall(r":root \{(.*?)\}", file.read(), re.S)
+        self.assertEqual(len(themes), 2)
+        for theme in themes:
+            colours = dict(re.findall(r"--(\w+): (#[0-9a-f]{6})", theme))
+            for name in ("ink", "soft", "verb", "label", "bad", "good"):
+                for ground in ("paper", "shade", "mark"):
+                    self.assertGreater(contrast(colours[name], colours[ground]), 4.5, f"{name} on {ground}")
+
     def test_bad_input_is_one_line(self):
         self.serve()
         for words, part in ((["ward.gps", "--port", str(self.port)], b"--port takes another one"), (["none.gps"], b"No such file"),
@@ -332,7 +386,7 @@ class Workbench(InFolder):
     def test_in_a_browser(self):
         if not (shutil.which("chromium") and shutil.which("chromedriver") and has("selenium", SYSTEM)):
             self.skipTest("no chromium, chromedriver or selenium: the workbench in a browser")
-        server, address = self.serve()
+        server, address = self.serve("--every", "50")
         words = [SYSTEM, "-c", BROWSE, address, self.folder, str(server.pid)]
         ran = subprocess.run(words, capture_output=True, timeout=110)
         self.assertEqual((ran.returncode, ran.stdout), (0, b"seen\n"), ran.stderr.decode()[-3500:])

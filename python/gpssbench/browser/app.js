@@ -21,7 +21,7 @@ function connect() {
   socket = new WebSocket(new URL("ws", location.href.replace(/^http/, "ws")));
   socket.onmessage = (event) => {
     const told = JSON.parse(event.data);
-    ({ state: showState, figures: showFigures, report: showReport, busy: showBusy, refused: showRefused, said: showSaid })[told.kind]?.(told);
+    ({ state: showState, figures: showFigures, report: showReport, busy: showBusy, offer: showOffer, trial: showTrial, refused: showRefused, said: showSaid })[told.kind]?.(told);
   };
   socket.onclose = () => {
     $("said").textContent = "The workbench does not answer; trying again.";
@@ -73,7 +73,6 @@ function showState(told) {
   $("replication").replaceChildren(...Object.keys(told.replications).map((it) => make("option", it)));
   $("replication").value = told.replications[chosen] ? chosen : Object.keys(told.replications)[0];
   $("lines").textContent = told.script.join("\n");
-  $("words").replaceChildren(...[...told.verbs, ...told.names].map((it) => Object.assign(make("option"), { value: it })));
   if (!editing) showModel();
 }
 
@@ -84,7 +83,6 @@ function showModel() {
     row.dataset.place = place + 1;
     const cell = make("td", "", "statement");
     cell.tabIndex = place === at ? 0 : -1;
-    cell.setAttribute("role", "button");
     cell.setAttribute("aria-label", `place ${place + 1}: ${it.text}${it.changed ? ", changed" : ""}`);
     for (const line of it.front.filter(Boolean)) cell.append(make("span", line + "\n", "comment"));
     cell.append(colored(it.text, it.verb));
@@ -127,9 +125,17 @@ function begin(place, side) {
   input.addEventListener("keydown", (event) => {
     event.stopPropagation();
     if (event.key === "Escape") end();
-    if (event.key === "Enter") commit();
+    if (event.key === "Enter") (event.ctrlKey ? attempt : commit)();
   });
+  input.addEventListener("input", askOffer);
   input.focus();
+  askOffer();
+}
+
+const askOffer = () => ask({ do: "offer", typed: editing.input.value });
+function showOffer(told) {
+  if (editing?.input.value !== told.typed) return;
+  $("words").replaceChildren(...told.lines.map((it) => Object.assign(make("option"), { value: it })));
 }
 
 function end() {
@@ -139,11 +145,27 @@ function end() {
   focusOn(at);
 }
 
+const begun = ({ place, side, input }) =>
+  (side === "change" ? `change ${place + 1} ` : `insert ${place + (side === "after" ? 2 : 1)} `) + input.value.trim();
+
 function commit() {
   const { place, side, input } = editing;
-  const text = input.value.trim();
-  if (side === "change" && text === state.statements[place].text) return end();
-  edit(side === "change" ? `change ${place + 1} ${text}` : `insert ${place + (side === "after" ? 2 : 1)} ${text}`);
+  if (side === "change" && input.value.trim() === state.statements[place].text) return end();
+  edit(begun(editing));
+}
+
+const attempt = () => ask({ do: "try", line: begun(editing) });
+function showTrial(told) {
+  if (!editing || begun(editing) !== told.line) return;
+  beside(told.text, "trial", "status");
+  editing.input.removeAttribute("aria-invalid");
+}
+
+function beside(text, name, role) {
+  document.querySelector(".beside")?.remove();
+  const says = make("div", text, `beside ${name}`);
+  says.setAttribute("role", role);
+  editing.input.after(says);
 }
 
 $("model").addEventListener("focusin", (event) => {
@@ -224,7 +246,8 @@ const showReport = (told) => ($("bytes").textContent = told.text);
 
 function showBusy(told) {
   $("give-up").hidden = false;
-  $("said").textContent = `Simulating: ${told.done} of ${told.of} replications, ${told.seconds} s`;
+  const keeps = told.keeps ? `; ${told.keeps}` : "";
+  $("said").textContent = `Simulating: ${told.done} of ${told.of} replications, ${told.seconds} s${keeps}`;
 }
 
 function showSaid(told) {
@@ -237,11 +260,8 @@ function showSaid(told) {
 function showRefused(told) {
   const text = `${told.code ? told.code + ": " : ""}${told.sentence}`;
   $("wrong").textContent = editing ? "" : text;
-  document.querySelector(".refusal")?.remove();
   if (editing) {
-    const says = make("div", text, "refusal");
-    says.setAttribute("role", "alert");
-    editing.input.after(says);
+    beside(text, "refusal", "alert");
     editing.input.setAttribute("aria-invalid", "true");
     editing.input.focus();
   }
