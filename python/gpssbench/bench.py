@@ -12,7 +12,7 @@
 """
 import html
 import re
-from collections.abc import Callable, Iterator, Sequence
+from collections.abc import Callable, Iterable, Iterator, Sequence
 from dataclasses import dataclass
 
 from . import codes, script
@@ -22,6 +22,8 @@ from .program import Ended, Model, Session
 from .seeds import RECOMMENDED
 from .stats import Estimate, differences, estimate, fixed
 
+# The columns that hold no figure.
+NO_NUMBERS = ("BLOCK TYPE", "ABOVE", "TO")
 PLURALS = {"facilities": "facility", "queues": "queue", "storages": "storage", "tables": "table", "blocks": "block"}
 
 
@@ -106,26 +108,30 @@ class Measure:
             raise Problem(f"`{text}` is no measure: written as `queue LINE AVE.TIME`, `head END TIME` or `class WAITS 300 CUM.%`")
         entity = words[1].upper() if own else ""
         wanted = "".join(words[own + 1 :]).upper()
-        column = next((it for it in KINDS[kind] if it.replace(" ", "").upper() == wanted), None)
+        columns = [it for it in KINDS[kind][own > 0 :] if it not in NO_NUMBERS]
+        column = next((it for it in columns if it.replace(" ", "").upper() == wanted), None)
         if column is None:
-            raise Problem(f"`{text}`: a {kind} has no column {' '.join(words[own + 1 :])}, but {', '.join(KINDS[kind][1:])}")
+            raise Problem(f"`{text}`: a {kind} has no column {' '.join(words[own + 1 :])}, but {', '.join(columns)}")
         return cls(kind, entity, column, words[2] if own == 2 else "")
 
     def __str__(self) -> str:
         return " ".join(it for it in (self.kind, self.entity, self.limit, self.column) if it)
 
+    def is_of(self, row: dict[str, str]) -> bool:
+        """Whether a row of the kind is of the entity."""
+        if self.kind == "class":
+            return row["TABLE"] == self.entity and row["TO"] == self.limit
+        if self.kind == "block":
+            return self.entity in (row["LABEL"], row["LOC"])
+        return self.kind == "head" or row[KINDS[self.kind][0]] == self.entity
+
+    def among(self, rows: Iterable[dict[str, str]]) -> float | None:
+        """The measure among the rows of its kind; None where the run has no figure."""
+        return figure(self.kind, self.column, next(filter(self.is_of, rows), None))
+
     def of(self, report: "Report") -> float | None:
         """The measure in a report; None where the run has no figure."""
-        rows_of = report.kinds.get(self.kind, [])
-        if self.kind == "head":
-            row = rows_of[0]
-        elif self.kind == "class":
-            row = next((it for it in rows_of if it["TABLE"] == self.entity and it["TO"] == self.limit), None)
-        elif self.kind == "block":
-            row = next((it for it in rows_of if self.entity in (it["LABEL"], it["LOC"])), None)
-        else:
-            row = next((it for it in rows_of if it[KINDS[self.kind][0]] == self.entity), None)
-        return figure(self.kind, self.column, row)
+        return self.among(report.kinds.get(self.kind, []))
 
 
 class Row:

@@ -216,6 +216,11 @@ def prepare(plan: Plan, model: str) -> None:
         if there and not any(measure.entity in it for it in there):
             known = sorted({it for names in there for it in names})
             raise Problem(f"measures, {name}: no {measure.kind} {measure.entity}, but {', '.join(known) or 'none'}")
+        if measure.kind == "class":
+            limits = {limit for cell in plan.cells for limit in limits_of(cell.texts, measure.entity)}
+            if measure.limit not in map(str, limits):
+                known = ", ".join(map(str, sorted(limits)))
+                raise Problem(f"measures, {name}: no class of {measure.entity} goes up to {measure.limit}, but to {known}")
 
 
 def drop_twin(plan: Plan) -> None:
@@ -233,7 +238,7 @@ def drop_twin(plan: Plan) -> None:
 
 VERBS_OF = {
     "facility": ("SEIZE", "RELEASE"), "queue": ("QUEUE", "DEPART"), "storage": ("STORAGE",), "table": ("TABLE",),
-    "class": ("TABLE",),
+    "class": ("TABLE",), "block": statements.BLOCKS,
 }
 
 
@@ -244,8 +249,14 @@ def named(texts: list[str], measure: Measure) -> set[str] | None:
     listed = codes.read(texts)
     numbers = {it.label: str(it.number(0)) for it in listed if it.verb == "EQU"}
     found = set()
+    if measure.kind == "block" and measure.entity.isdigit():
+        blocks = sum(it.verb in statements.BLOCKS for it in listed)
+        return set(map(str, range(1, blocks + 1)))
     for it in listed:
         if it.verb in VERBS_OF[measure.kind]:
+            if measure.kind == "block":
+                found |= {it.label} - {None}
+                continue
             if measure.kind in ("storage", "table", "class"):
                 found.add(it.label)
                 continue
@@ -254,6 +265,15 @@ def named(texts: list[str], measure: Measure) -> set[str] | None:
                 return None
             found.add(numbers.get(leaf[1], str(leaf[1])))
     return found
+
+
+def limits_of(texts: list[str], table: str) -> list[int]:
+    """The upper limits of the classes of a table; the last class has none."""
+    for it in codes.read(texts):
+        if it.verb == "TABLE" and it.label == table:
+            first, width, count = map(int, it.operands[1:4])
+            return [first + at * width for at in range(count - 1)]
+    return []
 
 
 def streams_of(texts: list[str]) -> tuple[int, ...]:

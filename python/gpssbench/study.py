@@ -118,6 +118,7 @@ class Study:
     def chunks(self, wanted: dict[str, int]) -> list[dict]:
         """The sessions that are still to run, for so many replications of each scenario."""
         found = []
+        measured = sorted({measure.kind for measure in self.plan.measures.values()})
         for at, cell in enumerate(self.plan.cells):
             for first in range(0, wanted[cell.name], MOST):
                 if not self.parts.has(at, first):
@@ -125,7 +126,7 @@ class Study:
                     found.append({
                         "cell": cell.name, "at": at, "first": first, "model": self.model, "edits": cell.plain,
                         "seeds": [[number + 1, self.seeds[number]] for number in numbers], "start": self.plan.start,
-                        "words": self.plan.words(),
+                        "words": self.plan.words(), "measured": measured,
                     })
         return found
 

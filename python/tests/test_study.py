@@ -9,7 +9,7 @@ import time
 import unittest
 
 from common import DESK, ROOT, SEED, InFolder, tool
-from gpssbench import plan, seeds, stats
+from gpssbench import Bench, plan, seeds, stats
 from gpssbench.command import SYSTEM, Problem, has
 
 PLAN = """model = "desk.gps"
@@ -177,6 +177,41 @@ exec {os.environ['GPSSBENCH']} "$@"
         self.assertIn(f"{len(failed)} not COMPLETE".encode(), ran.stderr)
         cell = self.table("failed", "cells.csv")[0]
         self.assertEqual((int(cell["n"]), cell["of"], cell["mean"]), (40 - len(failed), "40", "1"))
+
+    def test_classes_and_blocks_are_measured(self):
+        table = "Times TABLE M1,200,100,3\n"
+        self.write("desk.gps", table + DESK.replace("TERMINATE 1", "TABULATE Times\nTERMINATE 1"))
+        measures = {"few": "class TIMES 300 FREQUENCY", "share": "class TIMES 300 CUM.%", "served": "block Serve ENTRY COUNT",
+                    "held": "block 5 CURRENT COUNT"}
+        listed = "".join(f'{name} = "{text}"\n' for name, text in measures.items())
+        self.write("plan.toml", f'model = "desk.gps"\nreplications = 4\n[measures]\n{listed}')
+        ran = self.study("of")
+        self.assertEqual(ran.returncode, 0, ran.stderr)
+        with Bench(self.path("desk.gps"), seed=SEED) as bench:
+            bench.replicate(4)
+            rows = [report.text.split("\n") for report in bench.reports()]
+        cells = [[line.split() for line in text] for text in rows]
+        wanted = {
+            "few": [int(row[3]) for text in cells for row in text if row[:3] == ["200", "-", "300"]],
+            "share": [float(row[4]) for text in cells for row in text if row[:3] == ["200", "-", "300"]],
+            "served": [int(row[3]) for text in cells for row in text if row[:1] == ["SERVE"] and len(row) == 6],
+            "held": [int(row[4]) for text in cells for row in text if row[:1] == ["SERVE"] and len(row) == 6],
+        }
+        for row in self.table("of", "cells.csv"):
+            listed = wanted[row["measure"]]
+            self.assertEqual((row["n"], float(row["least"])), ("4", min(listed)), row)
+            self.assertAlmostEqual(float(row["mean"]), sum(listed) / 4, places=5)
+        for text, told in (
+            ("class TIMES 250 FREQUENCY", "no class of TIMES goes up to 250, but to 200, 300"),
+            ("class TIMES 300 TO", "has no column TO"),
+            ("block Sevre ENTRY COUNT", "no block SEVRE, but SERVE"),
+            ("block 9 ENTRY COUNT", "no block 9"),
+            ("block Serve BLOCK TYPE", "has no column BLOCK TYPE"),
+            ("queue LINE QUEUE", "has no column QUEUE"),
+        ):
+            self.write("plan.toml", f'model = "desk.gps"\n[measures]\nof = "{text}"\n')
+            ran = self.study("bad")
+            self.assertEqual((ran.returncode, ran.stderr.count(b"\n"), told.encode() in ran.stderr), (2, 1, True), ran.stderr)
 
     def test_precision_adds_replications(self):
         self.write("plan.toml", PLAN.replace("replications = 40", 'replications = 8\nprecision = "4%"\nmost = 500')
