@@ -15,6 +15,9 @@ KEYS = {
     "factors", "alternatives", "measures", "best",
 }
 AS_IT_IS = "as it is"
+# Edits that a study makes itself, and those that a plan may have.
+OF_REPLICATIONS = ("seed", "replicate", "drop")
+EDITS = tuple(it for it in script.EDITS if it not in OF_REPLICATIONS)
 
 
 @dataclass
@@ -201,8 +204,11 @@ def prepare(plan: Plan, model: str) -> None:
                 raise Problem(f"the program ended: {why}") from None
             for edit in cell.edits:
                 try:
-                    if not edit.split() or edit.split()[0] not in script.EDITS:
-                        raise Problem(f"an edit begins with one of {', '.join(script.EDITS)}")
+                    word = edit.partition(" ")[0]
+                    if word in OF_REPLICATIONS:
+                        raise Problem("the study chooses the replications and their seeds")
+                    if word not in EDITS:
+                        raise Problem(f"an edit begins with one of {', '.join(EDITS)}")
                     bench.edit(edit)
                 except (Refused, Problem) as why:
                     raise Problem(f"scenario {cell.name}: the edit `{edit}` is refused: {why}") from None
