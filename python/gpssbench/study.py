@@ -210,6 +210,14 @@ def model_of(plan: Plan, path: str) -> str:
         raise Problem(f"the model {at}: {why.strerror}") from None
 
 
+def text_of(written: bytes, path: str) -> str:
+    """The text of a plan: TOML is UTF-8."""
+    try:
+        return written.decode("utf-8").replace("\r\n", "\n")
+    except UnicodeDecodeError as why:
+        raise Problem(f"{path} is no TOML: byte {why.start + 1} is no UTF-8") from None
+
+
 def main(words: list[str]) -> int:
     read_words = Words(words, "--to --jobs --on", "--resume --parquet")
     if len(read_words.rest) != 1:
@@ -220,8 +228,8 @@ def main(words: list[str]) -> int:
         with_packages("distributed")
     if "--parquet" in read_words.flags:
         with_packages("pyarrow")
-    with open(path, encoding="utf-8") as file:
-        plan = read(file.read())
+    with open(path, "rb") as file:
+        plan = read(text_of(file.read(), path))
     model = model_of(plan, path)
     prepare(plan, model)
     os.makedirs(folder, exist_ok=True)

@@ -84,6 +84,15 @@ class Studies(InFolder):
         shown = tool("summary", self.path("one"))
         self.assertEqual((shown.returncode, shown.stderr), (0, b""))
         self.assertIn(" best\n", shown.stdout.decode())
+        for name, written, told in (
+            ("plan.toml", b"\xff", "plan.toml is no TOML"),
+            ("pairs.csv", b"kind,measure\n", "pairs.csv has no column cell"),
+            ("cells.csv", b"\xff", "cells.csv is no CSV"),
+        ):
+            with open(os.path.join(self.folder, "one", name), "wb") as file:
+                file.write(written)
+            bad = tool("summary", self.path("one"))
+            self.assertEqual((bad.returncode, bad.stderr.count(b"\n"), told.encode() in bad.stderr), (2, 1, True), bad.stderr)
 
     def test_a_cluster_that_loses_a_worker_writes_the_same(self):
         python = sys.executable if has("distributed") else SYSTEM
@@ -258,6 +267,10 @@ exec {os.environ['GPSSBENCH']} "$@"
             told = ran.stderr.decode()
             self.assertEqual((ran.returncode, told.count("\n"), wanted in told), (2, 1, True), told)
             self.assertFalse(os.path.exists(self.path("bad")), new)
+        with open(self.plan, "wb") as file:
+            file.write(b'model = "\xff"\n')
+        told = self.study("bad")
+        self.assertEqual((told.returncode, told.stderr), (2, f"tools/study: {self.plan} is no TOML: byte 10 is no UTF-8\n".encode()))
         self.write("desk.gps", DESK.replace("QUEUE", "QEUE"))
         self.write("plan.toml", PLAN)
         told = self.study("bad").stderr.decode()
