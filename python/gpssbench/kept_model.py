@@ -105,8 +105,10 @@ class KeptModel:
         self.statements, self.tail = of_file(text.rstrip("\n").split("\n"), self.bench.list())
         self.undone: list[str] = []
         self.done: list[tuple[str, str]] = []
-        self.named: dict[str, list[str]] = {}
-        self.base_texts = [it.text for it in self.statements]
+        # the horizon is no statement: it is kept beside them, None as it was opened
+        self.horizon: int | None = None
+        self.named: dict[str, tuple[list[str], int | None]] = {}
+        self.base_texts, self.base_horizon = [it.text for it in self.statements], self.horizon
         self.known_baseline: tuple[tuple, Reports] | None = None
         self.opened = list(self.base_texts)
         self.pinned: str | None = None
@@ -125,7 +127,7 @@ class KeptModel:
         for number, line in enumerate(whole.split("\n"), 1):
             try:
                 if line.startswith("# "):
-                    self.named[line[2:]] = self.texts()
+                    self.named[line[2:]] = self.texts(), self.horizon
                 elif line.strip():
                     self.edit(line)
                     count += 1
@@ -162,6 +164,8 @@ class KeptModel:
             self.bench.replications[int(rest[0])] = int(rest[1])
         elif word == "drop":
             self.bench.replications.pop(int(rest[0]), None)
+        elif word == "horizon":
+            self.horizon = int(rest[0])
         self.note(line)
         self.done.append((line, back))
         return self.follow(word, rest, before)
@@ -196,7 +200,7 @@ class KeptModel:
             return f"replicate {at + 1} {self.bench.replications[at + 1]}"
         if word == "horizon":
             told = [line for line, _ in self.done if line.startswith("horizon ")]
-            return told[-1] if told else f"horizon {self.words.get('horizon', 10**9)}"
+            return told[-1] if told else f"horizon {self.words.get('horizon') or 10**9}"
         return ""
 
     def follow(self, word: str, rest: list[str], before: list[str]) -> str:
@@ -271,20 +275,22 @@ class KeptModel:
 
     def pin(self) -> None:
         """Takes the model as it is for the baseline."""
-        self.base_texts, self.known_baseline, self.pinned = self.texts(), None, f"version {self.bench.version}"
+        self.base_texts, self.base_horizon = self.texts(), self.horizon
+        self.known_baseline, self.pinned = None, f"version {self.bench.version}"
 
     def name_version(self, name: str) -> None:
         """Gives the model as it is now a name, which the journal keeps as a comment."""
         if not re.fullmatch(r"[\w .,=+-]{1,60}", name.strip(), re.ASCII):
             raise Problem("a name has up to 60 letters, digits, blanks and signs")
-        self.named[name.strip()] = self.texts()
+        self.named[name.strip()] = self.texts(), self.horizon
         self.note(f"# {name.strip()}")
 
     def compare_with(self, name: str) -> None:
         """Takes a version that has a name for the baseline; without a name the model as it was opened."""
         if name and name not in self.named:
             raise Problem(f"no version is called {name}")
-        self.base_texts = list(self.named[name] if name else self.opened)
+        texts, self.base_horizon = self.named[name] if name else (self.opened, None)
+        self.base_texts = list(texts)
         self.known_baseline, self.pinned = None, name or None
 
     def baseline(self, start: int, each: Callable[[int], None] | None = None) -> Reports:
@@ -293,7 +299,8 @@ class KeptModel:
         key = tuple(seeds.items()), start
         if self.known_baseline is None or self.known_baseline[0] != key:
             text = "\n".join(it.replace("|", "\n") for it in self.base_texts) + "\n"
-            with Bench("-", text=text, seed=seeds.get(1, 1), **self.words) as other:
+            words = self.words if self.base_horizon is None else {**self.words, "horizon": self.base_horizon}
+            with Bench("-", text=text, seed=seeds.get(1, 1), **words) as other:
                 for number, seed in seeds.items():
                     if number != 1:
                         other.edit(f"replicate {number} {seed}")

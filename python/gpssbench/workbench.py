@@ -220,10 +220,10 @@ class Desk:
         """The program is gone: begins anew from the edits on the disk."""
         given_up, self.gives_up = self.gives_up, False
         self.since = 0.0
-        texts, pinned = self.kept.base_texts, self.kept.pinned
+        texts, horizon, pinned = self.kept.base_texts, self.kept.base_horizon, self.kept.pinned
         self.open()
         if self.kept and pinned is not None:
-            self.kept.base_texts, self.kept.pinned = texts, pinned
+            self.kept.base_texts, self.kept.base_horizon, self.kept.pinned = texts, horizon, pinned
         self.tell(self.state())
         what = "the run was given up" if given_up else f"the program ended ({why}) and was started anew"
         self.tell({"kind": "said", "text": f"{what}; no edit is lost"})
@@ -327,7 +327,9 @@ class Desk:
         measures = "".join(
             f'{it.kind}_{it.entity.lower()} = "{it}"\n' for it, _ in figures(self.reports or []) if it.column in ("AVE.TIME", "UTIL.", "MEAN")
         ) or 'end = "head END TIME"\n'
-        return f'model = "{os.path.basename(self.path)}"\nstart = {self.start()}\nreplications = 100\n{alternative}\n[measures]\n{measures}'
+        horizon = f"horizon = {self.kept.horizon}\n" if self.kept.horizon else ""
+        front = f'model = "{os.path.basename(self.path)}"\nstart = {self.start()}\nreplications = 100\n{horizon}'
+        return f"{front}{alternative}\n[measures]\n{measures}"
 
     def write_text(self, text: str) -> None:
         """A model that was refused, mended: it is written once the program takes it."""

@@ -31,6 +31,23 @@ class Prompts(InFolder):
         self.assertEqual(told.count("there is nothing to redo"), 1)
         self.assertEqual(told.count("there is nothing to undo"), 1)
 
+    def test_a_baseline_has_its_horizon(self):
+        told = self.ask("horizon 5000", "compare", "base", "compare", "undo", "compare")
+        self.assertIn("queue LINE ENTRY", told.split("is the baseline")[0])
+        after = told.split("is the baseline")[1].split("\n")
+        self.assertEqual(after[1], "nothing differs")
+        self.assertIn("undone: horizon 5000", after)
+        self.assertTrue(any(line.startswith("queue LINE ENTRY") for line in after), after)
+        kept = KeptModel(self.path("desk.gps"), replications=2)
+        self.addCleanup(kept.bench.close)
+        kept.edit("horizon 5000")
+        kept.name_version("short")
+        kept.undo()
+        for name, differs in (("", False), ("short", True)):
+            kept.compare_with(name)
+            found = compare(kept.baseline(1), kept.reports(1))
+            self.assertEqual(any(it.change.mean for it in found), differs, name)
+
     def test_what_is_wrong_is_said(self):
         told = self.ask("change 5 ADVANCE 1.5", "hlep", "explain M3", "save /nowhere/x.gps", "report 1 9", "report 7")
         for part in ("no decimals", "no command hlep; help?", "M3: ", "/nowhere/x.gps: No such file", "nostart: ", "noreplication: "):
