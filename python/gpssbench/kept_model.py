@@ -119,12 +119,15 @@ class KeptModel:
     # ---- edits
 
     def replay(self) -> int:
-        """Makes the edits of the journal again; how many they are. A last line that is broken off was shown to nobody."""
-        with open(self.journal, encoding="latin-1") as file:
+        """Makes the edits of the journal again; how many they are. A last line that is broken off was shown to nobody, and
+        is cut off, so that the next edit begins a line."""
+        with open(self.journal, encoding="latin-1", newline="") as file:
             text = file.read()
-        whole, _, _ = text.rpartition("\n")
+        whole, ends, rest = text.rpartition("\n")
+        if rest:
+            os.truncate(self.journal, len(whole + ends))
         journal, self.journal, count = self.journal, None, 0
-        for number, line in enumerate(whole.split("\n"), 1):
+        for number, line in enumerate(whole.replace("\r", "").split("\n"), 1):
             try:
                 if line.startswith("# "):
                     self.named[line[2:]] = self.texts(), self.horizon

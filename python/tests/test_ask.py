@@ -84,6 +84,8 @@ class Prompts(InFolder):
         self.assertEqual((again.replayed, again.texts()[4]), (1, "SERVE ADVANCE 140,40"))
         found = compare(again.baseline(1), again.reports(1))
         self.assertTrue(any(it.change.mean for it in found))
+        again.edit("change 1 GENERATE 190,60")
+        self.assertEqual(self.read("desk.edits"), b"change 5 SERVE ADVANCE 140,40\nchange 1 GENERATE 190,60\n")
 
     def test_completion_at_a_terminal(self):
         path = self.write("desk.gps", DESK)
