@@ -119,7 +119,7 @@ class KeptModel:
     # ---- edits
 
     def replay(self) -> int:
-        """Makes the edits of the journal again; how many they are. A last line that is broken off was shown to nobody, and
+        """Makes the edits of the journal again; how many they are, replications apart. A last line that is broken off was shown to nobody, and
         is cut off, so that the next edit begins a line."""
         with open(self.journal, encoding="latin-1", newline="") as file:
             text = file.read()
@@ -133,7 +133,7 @@ class KeptModel:
                     self.named[line[2:]] = self.texts(), self.horizon
                 elif line.strip():
                     self.edit(line)
-                    count += 1
+                    count += not line.startswith("replicate ")
             except (Refused, Problem) as why:
                 raise Problem(f"{journal}, line {number}, `{line}`: {why}") from None
         self.journal = journal

@@ -13,6 +13,7 @@ that is closed and a workbench that is started anew go on from there. Files are 
 alone. Several tabs see each other's edits; a tab that is not up to date is told so. Ctrl-C ends it.
 
 It wants Tornado; python/install installs it."""
+import fcntl
 import hmac
 import json
 import os
@@ -24,7 +25,7 @@ from concurrent.futures import ThreadPoolExecutor
 
 from . import codes, script
 from .bench import NoReport, Refused, Report, Reports
-from .command import Problem, Words, lines_of, with_packages
+from .command import Problem, Words, lines_of, warn, with_packages
 from .kept_model import KeptModel, compare, figures
 from .program import Ended
 from .stats import Estimate, fixed
@@ -54,9 +55,9 @@ class Desk:
         self.reports: Reports | None = None
         self.gives_up = False
         self.since, self.done = 0.0, 0
-        is_new = not os.path.exists(self.path + ".edits")
+        self.held = None
         self.open()
-        for line in lines if self.kept and is_new else ():
+        for line in lines if self.kept and not self.kept.replayed else ():
             if line.word in script.EDITS:
                 try:
                     self.kept.edit(line.plain)
@@ -69,6 +70,7 @@ class Desk:
 
     def open(self) -> None:
         """Opens the model's file with the edits that were made, or keeps why it is refused."""
+        self.hold()
         self.close()
         self.fault = self.reports = None
         try:
@@ -77,6 +79,21 @@ class Desk:
             self.refused_model(why, self.text())
         except Problem as why:
             self.fault = {"text": self.text(), "code": "", "sentence": f"{self.path}.edits: {why}", "line": 0}
+
+    def hold(self) -> None:
+        """Holds the model's file, so that no other workbench writes to its edits, too."""
+        file = open(self.path, "rb")
+        if self.held and os.path.samestat(os.fstat(file.fileno()), os.fstat(self.held.fileno())):
+            file.close()
+            return
+        try:
+            fcntl.flock(file, fcntl.LOCK_EX | fcntl.LOCK_NB)
+        except BlockingIOError:
+            file.close()
+            raise Problem(f"{self.path} is open in another workbench: several tabs may show one") from None
+        if self.held:
+            self.held.close()
+        self.held = file
 
     def text(self) -> str:
         with open(self.path, encoding="latin-1", newline="") as file:
@@ -244,8 +261,12 @@ class Desk:
         elif word == "text":
             self.write_text(str(asked.get("text", "")))
         elif word == "open":
-            self.path = self.in_folder(str(asked.get("name", "")), ".gps", True)
-            self.open()
+            before, self.path = self.path, self.in_folder(str(asked.get("name", "")), ".gps", True)
+            try:
+                self.open()
+            except Problem:
+                self.path = before
+                raise
             self.tell(self.state())
             self.simulate()
         elif self.kept is None:
@@ -456,7 +477,9 @@ def main(words: list[str]) -> int:
     import asyncio
     import logging
 
+    from tornado.httpserver import HTTPServer
     from tornado.ioloop import PeriodicCallback
+    from tornado.netutil import bind_sockets
 
     logging.getLogger("tornado.access").setLevel(logging.ERROR)
 
@@ -464,14 +487,17 @@ def main(words: list[str]) -> int:
         token = secrets.token_urlsafe(24)
         hosts = {f"127.0.0.1:{port}", f"localhost:{port}"}
         desk_of = lambda tell: Desk(read.rest[0], seed, count, start, tell, lines)
-        app, desk, pulse = application(desk_of, token, hosts)
         try:
-            server = app.listen(port, address="127.0.0.1")
+            sockets = bind_sockets(port, "127.0.0.1")
         except OSError as why:
-            desk.close()
             raise Problem(f"port {port}: {why.strerror}; --port takes another one") from None
+        app, desk, pulse = application(desk_of, token, hosts)
+        server = HTTPServer(app)
+        server.add_sockets(sockets)
         if desk.kept and desk.kept.replayed:
-            print(f"{desk.kept.replayed} edits of {desk.path}.edits were made again", flush=True)
+            print(f"the edits of {desk.path}.edits were made again: {desk.kept.replayed}", flush=True)
+            if lines:
+                warn(f"{read.rest[1]} is left out, since {desk.path} has edits of its own; move that .edits away for it")
         print(f"http://127.0.0.1:{port}/{token}/", flush=True)
         PeriodicCallback(pulse, 250).start()
         try:

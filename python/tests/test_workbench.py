@@ -329,6 +329,20 @@ class Workbench(InFolder):
             ran = tool("workbench", *words, cwd=self.folder)
             self.assertEqual((ran.returncode, ran.stderr.count(b"\n"), part in ran.stderr), (2, 1, True), ran.stderr)
 
+    def test_a_model_has_one_workbench(self):
+        self.serve()
+        with socket.socket() as free:
+            free.bind(("127.0.0.1", 0))
+            port = free.getsockname()[1]
+        before = self.read("ward.gps.edits")
+        ran = tool("workbench", "ward.gps", "--port", str(port), cwd=self.folder)
+        told = b"is open in another workbench"
+        self.assertEqual((ran.returncode, ran.stderr.count(b"\n"), told in ran.stderr), (2, 1, True), ran.stderr)
+        self.assertEqual(self.read("ward.gps.edits"), before)
+        # a port that is in use leaves no edits
+        ran = tool("workbench", "clinic.gps", "--port", str(self.port), cwd=self.folder)
+        self.assertEqual((ran.returncode, os.path.exists(self.path("clinic.gps.edits"))), (2, False), ran.stderr)
+
     def test_in_a_browser(self):
         if not (shutil.which("chromium") and shutil.which("chromedriver") and has("selenium", SYSTEM)):
             self.skipTest("no chromium, chromedriver or selenium: the workbench in a browser")
@@ -362,8 +376,20 @@ class Workbench(InFolder):
     def test_the_edits_of_a_script_come_first(self):
         self.serve(self.write("what.script", "# eleven\nchange @Beds STORAGE 11\nall 1\n"), "--replications", "1")
         self.assertEqual(self.read("ward.gps.edits"), b"change 1 BEDS STORAGE 11\n")
+        # where there are edits, those of a script are left out, and one is told
+        shutil.copy(self.path("ward.gps"), self.path("other.gps"))
+        shutil.copy(self.path("ward.gps.edits"), self.path("other.gps.edits"))
+        with socket.socket() as free:
+            free.bind(("127.0.0.1", 0))
+            port = free.getsockname()[1]
+        command = [os.path.join(ROOT, "tools", "workbench"), "other.gps", "what.script", "--port", str(port)]
+        other = subprocess.Popen(command, stdout=subprocess.PIPE, stderr=subprocess.PIPE, text=True, cwd=self.folder)
+        self.assertIn("other.gps.edits were made again: 1\n", other.stdout.readline())
+        other.stdout.readline()
+        other.send_signal(signal.SIGINT)
+        self.assertIn("what.script is left out", other.communicate(timeout=10)[1])
         bad = self.write("bad.script", "change @Nowhere STORAGE 11\n")
-        ran = tool("workbench", self.path("clinic.gps"), bad, "--port", str(self.port))
+        ran = tool("workbench", self.path("clinic.gps"), bad, "--port", str(port))
         self.assertEqual((ran.returncode, ran.stderr.count(b"\n"), b"line 1 of the script" in ran.stderr), (2, 1, True), ran.stderr)
 
 
