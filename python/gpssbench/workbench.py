@@ -68,13 +68,14 @@ class Desk:
 
     # ---- opening
 
-    def open(self) -> None:
-        """Opens the model's file with the edits that were made, or keeps why it is refused."""
+    def open(self, count: int | None = None) -> None:
+        """Opens the model's file with the edits that were made, and at least so many replications, or keeps why it is
+        refused."""
         self.hold()
         self.close()
         self.fault = self.reports = None
         try:
-            self.kept = KeptModel(self.path, self.seed, self.replications, self.path + ".edits")
+            self.kept = KeptModel(self.path, self.seed, count or self.replications, self.path + ".edits")
         except Refused as why:
             self.refused_model(why, self.text())
         except Problem as why:
@@ -107,6 +108,11 @@ class Desk:
         if self.kept:
             self.kept.bench.close()
             self.kept = None
+
+    def end(self) -> None:
+        self.close()
+        if self.held:
+            self.held.close()
 
     def start(self) -> int:
         starts = self.kept.starts()
@@ -154,8 +160,12 @@ class Desk:
 
     def shown(self) -> dict:
         """The figures over all replications, and what differs from the baseline."""
-        baseline = self.kept.baseline(self.start(), self.progress)
-        rows = []
+        rows, without = [], []
+        try:
+            baseline = self.kept.baseline(self.start(), self.progress)
+        except NoReport:
+            baseline = Reports([])
+            without = [f"the baseline has no report of START {self.start()}: `p` takes the model as it is for the baseline"]
         for it in compare(baseline, self.reports, True):
             if it.now is None and it.before is None:
                 continue
@@ -170,7 +180,7 @@ class Desk:
         missing = [f"replication {number}: {why}, {codes.meaning(why)[0]}" for number, why in self.reports.missing.items()]
         outcomes = [f"replication {it.replication}: {it.outcome}" for it in self.reports if it.outcome != "COMPLETE"]
         return {
-            "kind": "figures", "rows": rows, "missing": missing + outcomes, "start": self.start(), "classes": self.classes(),
+            "kind": "figures", "rows": rows, "missing": without + missing + outcomes, "start": self.start(), "classes": self.classes(),
             "baseline": self.kept.pinned or "the model as it was opened",
         }
 
@@ -238,7 +248,7 @@ class Desk:
         given_up, self.gives_up = self.gives_up, False
         self.since = 0.0
         texts, horizon, pinned = self.kept.base_texts, self.kept.base_horizon, self.kept.pinned
-        self.open()
+        self.open(1)
         if self.kept and pinned is not None:
             self.kept.base_texts, self.kept.base_horizon, self.kept.pinned = texts, horizon, pinned
         self.tell(self.state())
@@ -504,7 +514,7 @@ def main(words: list[str]) -> int:
             await asyncio.Event().wait()
         finally:
             server.stop()
-            desk.close()
+            desk.end()
 
     try:
         asyncio.run(serve())

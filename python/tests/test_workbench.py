@@ -11,6 +11,7 @@ import urllib.parse
 
 from common import ROOT, InFolder, tool
 from gpssbench.command import SYSTEM, has
+from gpssbench.workbench import Desk
 
 # What the browser is asked, run by the Python that has Selenium.
 BROWSE = """
@@ -258,6 +259,43 @@ async def main():
 asyncio.run(main())
 print("heard")
 """
+
+
+class Desks(InFolder):
+    """What a tab is told, without a browser."""
+
+    def desk(self, text, replications=2):
+        with open(self.path("desk.gps"), "wb") as file:
+            file.write(text)
+        self.told = []
+        desk = Desk(self.path("desk.gps"), 1945846388, replications, None, self.told.append)
+        self.addCleanup(desk.end)
+        return desk
+
+    def ask(self, desk, **asked):
+        self.told.clear()
+        desk.ask(asked)
+        return {it["kind"]: it for it in self.told}
+
+    def test_a_baseline_without_the_start(self):
+        desk = self.desk(b"GENERATE 10\nQUEUE Line\nADVANCE 3\nDEPART Line\nTERMINATE 1\nSTART 5\n")
+        told = self.ask(desk, do="edit", line="insert 7 START 5", seen=1)
+        self.assertEqual(told["figures"]["start"], 2)
+        row = next(it for it in told["figures"]["rows"] if it["column"] == "AVE.TIME")
+        self.assertEqual((row["now"], row["before"]), (["3.000", "0.000"], ""))
+        self.assertIn("the baseline has no report of START 2", told["figures"]["missing"][0])
+        told = self.ask(desk, do="pin")
+        self.assertEqual(told["figures"]["missing"], [])
+
+    def test_a_program_that_dies_has_no_further_replication(self):
+        desk = self.desk(b"GENERATE 10,5\nTERMINATE 1\nSTART 5\n", 3)
+        told = self.ask(desk, do="edit", line="drop 2", seen=2)
+        before = told["state"]["replications"]
+        desk.kept.bench.session.process.kill()
+        desk.kept.bench.session.process.wait()
+        told = self.ask(desk, do="edit", line="change 1 GENERATE 9,5", seen=3)
+        self.assertIn("no edit is lost", told["said"]["text"])
+        self.assertEqual(told["state"]["replications"], before)
 
 
 class Workbench(InFolder):
