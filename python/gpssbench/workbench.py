@@ -125,7 +125,8 @@ class Desk:
     def state(self) -> dict:
         """All that a tab shows, but for what reports say."""
         files = sorted(name for name in os.listdir(self.folder) if name.endswith(".gps") and NAME.fullmatch(name))
-        found = {"kind": "state", "file": os.path.basename(self.path), "files": files, "fault": self.fault}
+        fault = self.fault and {**self.fault, **{it: script.name_of(self.fault[it]) for it in ("text", "sentence")}}
+        found = {"kind": "state", "file": os.path.basename(self.path), "files": files, "fault": fault}
         if self.kept is None:
             return {**found, "version": -1, "statements": []}
         counts = self.counts()
@@ -137,7 +138,8 @@ class Desk:
             position += is_block
             comment = " ".join(line.partition(";")[2].strip() for line in it.source[:1] if ";" in line)
             rows.append({
-                "text": it.text, "verb": verb, "changed": differs, "comment": comment, "front": [line.strip() for line in it.front],
+                "text": it.text, "verb": verb, "changed": differs, "comment": script.name_of(comment),
+                "front": [script.name_of(line.strip()) for line in it.front],
                 "counts": counts.get(str(position)) if is_block else None,
             })
         return {
@@ -269,7 +271,8 @@ class Desk:
             elif self.kept:
                 self.tell(self.shown())
         elif word == "text":
-            self.write_text(str(asked.get("text", "")))
+            # a tab's letters are written as UTF-8, as bytes that are read one by one
+            self.write_text(str(asked.get("text", "")).encode("utf-8", "replace").decode("latin-1"))
         elif word == "open":
             before, self.path = self.path, self.in_folder(str(asked.get("name", "")), ".gps", True)
             try:

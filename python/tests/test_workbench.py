@@ -287,6 +287,17 @@ class Desks(InFolder):
         told = self.ask(desk, do="pin")
         self.assertEqual(told["figures"]["missing"], [])
 
+    def test_comments_have_any_letters(self):
+        desk = self.desk("* Café €\nGENERATE 10 ; größer\nQUEUE Größe\nTERMINATE 1\nSTART 5\n".encode())
+        told = self.ask(desk, do="look")
+        self.assertIn("Café €", told["state"]["fault"]["text"])
+        self.assertIn("`QUEUE Größe`", told["state"]["fault"]["sentence"])
+        text = told["state"]["fault"]["text"].replace("Größe", "Size")
+        told = self.ask(desk, do="text", text=text)
+        self.assertEqual(self.read("desk.gps"), text.encode())
+        first = told["state"]["statements"][0]
+        self.assertEqual((first["comment"], first["front"]), ("größer", ["* Café €"]))
+
     def test_a_program_that_dies_has_no_further_replication(self):
         desk = self.desk(b"GENERATE 10,5\nTERMINATE 1\nSTART 5\n", 3)
         told = self.ask(desk, do="edit", line="drop 2", seen=2)
