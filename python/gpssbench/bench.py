@@ -332,6 +332,8 @@ class Bench:
 
     def ask(self, line: str) -> tuple[str, list]:
         """The answer to a script's line, as the program has it. A model that is refused is told at the first one."""
+        if "\n" in line or any(ord(it) > 255 for it in line):
+            raise Problem("a line of a script is one line of plain letters, digits and signs")
         try:
             return self.session.ask(line)
         except Ended as end:

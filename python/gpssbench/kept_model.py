@@ -185,7 +185,7 @@ class KeptModel:
         """The edit that takes an edit back; nothing where there is none."""
         word, *rest = line.split(maxsplit=2)
         texts = self.texts()
-        at = int(rest[0]) - 1 if rest and rest[0].isdigit() else -1
+        at = int(rest[0]) - 1 if rest and rest[0].isdecimal() else -1
         if word == "insert":
             return f"delete {at + 1}"
         if word == "delete" and 0 <= at < len(texts):
@@ -209,7 +209,7 @@ class KeptModel:
     def follow(self, word: str, rest: list[str], before: list[str]) -> str:
         """Brings the statements to what `list` shows now, and says what differs."""
         now = self.bench.list()
-        at = int(rest[0]) - 1 if rest and rest[0].isdigit() else 0
+        at = int(rest[0]) - 1 if rest and rest[0].isdecimal() else 0
         if word == "insert":
             self.statements.insert(at, Statement(now[at], [], laid_out(now[at])))
             return f"{at + 1}: inserted {now[at]}"

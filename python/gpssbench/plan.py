@@ -255,7 +255,7 @@ def named(texts: list[str], measure: Measure) -> set[str] | None:
     listed = codes.read(texts)
     numbers = {it.label: str(it.number(0)) for it in listed if it.verb == "EQU"}
     found = set()
-    if measure.kind == "block" and measure.entity.isdigit():
+    if measure.kind == "block" and measure.entity.isdecimal():
         blocks = sum(it.verb in statements.BLOCKS for it in listed)
         return set(map(str, range(1, blocks + 1)))
     for it in listed:

@@ -49,6 +49,9 @@ class Prompts(InFolder):
             self.assertEqual(any(it.change.mean for it in found), differs, name)
 
     def test_what_is_wrong_is_said(self):
+        told = self.ask("report \u00b2", "seed \u00b2 4", "change 1 \u20ac", "delete 9\u00b2")
+        self.assertEqual(told.count("\n"), 4, told)
+        self.assertIn("plain letters", told)
         told = self.ask("change 5 ADVANCE 1.5", "hlep", "explain M3", "save /nowhere/x.gps", "report 1 9", "report 7")
         for part in ("no decimals", "no command hlep; help?", "M3: ", "/nowhere/x.gps: No such file", "nostart: ", "noreplication: "):
             self.assertIn(part, told)
