@@ -31,7 +31,9 @@ class Refused(Exception):
     """An edit that the program refused: its codes (`E3 M2`) and sentences on what is wrong and what to do."""
 
     def __init__(self, code: str, sentence: str):
-        super().__init__(f"{code}: {sentence}")
+        # the sentence of a code that has no line of its own begins with it
+        begins = re.fullmatch(r"(?:\? n \w+|[A-Z]\d+(?: \d+)?): (.*)", sentence, re.DOTALL)
+        super().__init__(f"{code}: {begins[1] if begins else sentence}")
         self.code, self.sentence = code, sentence
 
 
@@ -41,7 +43,7 @@ class NoReport(Exception):
     answer = ""
 
     def __init__(self):
-        self.sentence = " ".join(codes.meaning(self.answer))
+        self.sentence = ". ".join(codes.meaning(self.answer))
         super().__init__(f"{self.answer}: {self.sentence}")
 
 
@@ -303,6 +305,15 @@ class Reports(list):
         return html_table(titles, cells)
 
 
+def after(line: str, texts: list[str]) -> list[str]:
+    """What the statements would be after an edit."""
+    word, place, *text = line.split(" ", 2)
+    if word not in ("insert", "delete", "change"):
+        return texts
+    at = int(place) - 1
+    return texts[:at] + text + texts[at + (word != "insert") :]
+
+
 def explained(end: Ended) -> Ended:
     """The end of a session, with what its code means."""
     stop = re.match(r"stopped: (F\d)", end.told)
@@ -343,10 +354,10 @@ class Bench:
         told = re.fullmatch(r"model refused: (.*)", end.told.split("\n")[0])
         if told is None:
             return None
+        lines = (Model.read(self.model.path) if self.model.path != "-" else self.model).lines()
         if line := re.fullmatch(r"line (\d+) (L\d.*)", told[1]):
-            lines = (Model.read(self.model.path) if self.model.path != "-" else self.model).lines()
             return Refused(f"line {line[1]} {line[2]}", " ".join(codes.line_fault(line[2], lines[int(line[1]) - 1])))
-        return Refused(told[1], " ".join(codes.said(told[1])))
+        return Refused(told[1], " ".join(codes.model_fault(told[1], [text for _, text in codes.joined(lines)])))
 
     def edit(self, line: str) -> int:
         """Makes an edit, with places by label or text where one likes; the version that it makes. `Refused` else."""
@@ -367,7 +378,7 @@ class Bench:
         if rest.startswith("L") and not line.startswith("capacity"):
             return Refused(told, " ".join(codes.line_fault(rest, line.split(" ", 2)[2])))
         if rest.startswith("M"):
-            return Refused(told, " ".join(codes.said(rest)))
+            return Refused(told, " ".join(codes.model_fault(rest, after(line, self.list()))))
         return Refused(told, " ".join(codes.edit_fault(code, line, self.list())))
 
     # ---- edits

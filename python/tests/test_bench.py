@@ -51,6 +51,17 @@ class OpenModel(InFolder):
         with self.assertRaises(Refused) as refused:
             bench.capacity("Clerk", 2)
         self.assertIn("CLERK is a facility", refused.exception.sentence)
+        self.assertTrue(str(refused.exception).startswith("E6: no `STORAGE` has the name. What to do: "))
+        with self.assertRaises(Refused) as refused:
+            bench.change("@Serve", "ADVANCE Lot")
+        self.assertEqual(refused.exception.code, "E3 M3")
+        self.assertIn("The name that is meant is LOT, in `SERVE ADVANCE Lot`.", refused.exception.sentence)
+        with self.assertRaises(Refused) as refused:
+            bench.edit("seed 1 0")
+        self.assertEqual(refused.exception.code, "E3 M6")
+        with self.assertRaises(Refused) as refused:
+            self.open("GENERATE 5\nTRANSFER ,Out\n").list()
+        self.assertIn("The name that is meant is OUT, in `TRANSFER ,Out`.", refused.exception.sentence)
         with self.assertRaisesRegex(Problem, "no statement has the label"):
             bench.change("@Nobody", "ADVANCE 5")
         self.assertEqual(bench.version, 0)
