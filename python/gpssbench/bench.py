@@ -133,7 +133,11 @@ class Measure:
 
     def of(self, report: "Report") -> float | None:
         """The measure in a report; None where the run has no figure."""
-        return self.among(report.kinds.get(self.kind, []))
+        rows = report.kinds.get(self.kind, [])
+        if self.kind == "class" and not any(map(self.is_of, rows)):
+            if limits := [row["TO"] for row in rows if row["TABLE"] == self.entity and row["TO"]]:
+                raise Problem(f"no class of {self.entity} goes up to {self.limit}, but to {', '.join(limits)}")
+        return self.among(rows)
 
 
 class Row:

@@ -24,9 +24,7 @@ OVER_COUNT = {("facility", "AVE. TIME"): "ENTRIES", ("queue", "AVE.TIME"): "ENTR
 def weighed(measure: Measure, report: Report) -> tuple[float, float] | None:
     """A measure as a sum and what it is divided by; None where there is no row yet."""
     rows = report.kinds.get(measure.kind, [])
-    row = report.kinds["head"][0] if measure.kind == "head" else next(
-        (it for it in rows if measure.entity in (it[next(iter(it))], it.get("LOC"))), None
-    )
+    row = next(filter(measure.is_of, rows), None)
     value = figure(measure.kind, measure.column, row)
     if value is None:
         return None

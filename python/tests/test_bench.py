@@ -70,6 +70,14 @@ class OpenModel(InFolder):
         self.assertEqual(refused.exception.code, "line 2 L3")
         self.assertIn("ADVANCE?", refused.exception.sentence)
 
+    def test_a_class_is_called_by_its_limit(self):
+        bench = self.open("Times TABLE M1,2,2,4\nGENERATE 10\nADVANCE 3\nTABULATE Times\nTERMINATE 1\nSTART 5\n")
+        found = bench.reports()
+        self.assertEqual(found.values("class TIMES 4 FREQUENCY"), [5.0])
+        self.assertEqual(found.values("class TIMES 2 FREQUENCY"), [0.0])
+        with self.assertRaisesRegex(Problem, "no class of TIMES goes up to 3, but to 2, 4, 6"):
+            found.values("class TIMES 3 FREQUENCY")
+
     def test_queries_without_a_report(self):
         bench = self.open(limit=100)
         self.assertRaises(TooLong, bench.report)
