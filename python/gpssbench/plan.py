@@ -218,15 +218,21 @@ def prepare(plan: Plan, model: str) -> None:
             raise Problem(f"scenario {cell.name}: start = {plan.start}, and the model has {starts} START")
     drop_twin(plan)
     for name, measure in plan.measures.items():
-        there = [it for cell in plan.cells for it in (named(cell.texts, measure),) if it is not None]
-        if there and not any(measure.entity in it for it in there):
-            known = sorted({it for names in there for it in names})
-            raise Problem(f"measures, {name}: no {measure.kind} {measure.entity}, but {', '.join(known) or 'none'}")
-        if measure.kind == "class":
-            limits = {limit for cell in plan.cells for limit in limits_of(cell.texts, measure.entity)}
-            if measure.limit not in map(str, limits):
-                known = ", ".join(map(str, sorted(limits)))
-                raise Problem(f"measures, {name}: no class of {measure.entity} goes up to {measure.limit}, but to {known}")
+        if why := of_nothing(measure, [cell.texts for cell in plan.cells]):
+            raise Problem(f"measures, {name}: {why}")
+
+
+def of_nothing(measure: Measure, models: list[list[str]]) -> str | None:
+    """Why a measure is of nothing in any of some models; None where it is of something, or only a run can tell."""
+    there = [it for texts in models for it in (named(texts, measure),) if it is not None]
+    if there and not any(measure.entity in it for it in there):
+        known = sorted({it for names in there for it in names})
+        return f"no {measure.kind} {measure.entity}, but {', '.join(known) or 'none'}"
+    if measure.kind == "class":
+        limits = {limit for texts in models for limit in limits_of(texts, measure.entity)}
+        if measure.limit not in map(str, limits):
+            return f"no class of {measure.entity} goes up to {measure.limit}, but to {', '.join(map(str, sorted(limits)))}"
+    return None
 
 
 def drop_twin(plan: Plan) -> None:

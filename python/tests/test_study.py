@@ -292,6 +292,11 @@ exec {os.environ['GPSSBENCH']} "$@"
         self.assertIn("by MSER-5 over the mean of 8 replications", ran.stdout.decode().split("\n")[-2])
         bad = tool("warmup", self.path("warm.gps"), "queue", "LINE", "CONT.")
         self.assertEqual((bad.returncode, bad.stderr.count(b"\n")), (2, 1))
+        self.write("bad.gps", DESK.replace("QUEUE", "QEUE"))
+        for model, entity, told in (("warm.gps", "LIEN", b"no queue LIEN, but LINE"), ("none.gps", "LINE", b"No such file"),
+                                    ("bad.gps", "LINE", b"is refused: line 2 L3")):
+            bad = tool("warmup", self.path(model), "queue", entity, "CONT.", "--every", "900", "--until", "90000")
+            self.assertEqual((bad.returncode, bad.stderr.count(b"\n"), told in bad.stderr), (2, 1, True), bad.stderr)
 
 
 if __name__ == "__main__":
