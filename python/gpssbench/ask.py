@@ -79,7 +79,7 @@ class Prompt:
         }.get(word)
         if own:
             own(rest)
-        elif word == "replicate" and len(rest) == 1 and rest[0].isdigit():
+        elif word == "replicate" and len(rest) == 1 and rest[0].isdecimal():
             self.kept.add_replications(int(rest[0]))
             print(f"{len(self.kept.bench.replications)} replications")
         elif word in script.EDITS:
@@ -93,7 +93,7 @@ class Prompt:
         print(__doc__.split("\n\n", 2)[2].strip("\n"))
 
     def report(self, rest: list[str]) -> None:
-        numbers = [int(it) for it in rest if it.isdigit()]
+        numbers = [int(it) for it in rest if it.isdecimal()]
         if len(numbers) != len(rest) or len(rest) > 2:
             raise Problem("report, report 2 or report 2 1: a replication and a START")
         replication, start = (*numbers, *[1, self.start()][len(numbers) :])

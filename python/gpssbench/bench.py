@@ -12,7 +12,7 @@
 """
 import html
 import re
-from collections.abc import Callable, Iterator, Sequence
+from collections.abc import Callable, Iterable, Iterator, Sequence
 from dataclasses import dataclass
 
 from . import codes, script
@@ -25,6 +25,8 @@ from .stats import Estimate, differences, estimate, fixed
 # What stands in front of a row of a report where it stands alone, and the columns that hold names.
 FRONT = ["version", "replication", "seed", "outcome"]
 ENTITIES = ["NAME", "LABEL", "FACILITY", "QUEUE", "STORAGE", "TABLE"]
+# The columns that hold no figure.
+NO_NUMBERS = ("BLOCK TYPE", "ABOVE", "TO")
 PLURALS = {"facilities": "facility", "queues": "queue", "storages": "storage", "tables": "table", "blocks": "block"}
 
 
@@ -32,7 +34,9 @@ class Refused(Exception):
     """An edit that the program refused: its codes (`E3 M2`) and sentences on what is wrong and what to do."""
 
     def __init__(self, code: str, sentence: str):
-        super().__init__(f"{code}: {sentence}")
+        # the sentence of a code that has no line of its own begins with it
+        begins = re.fullmatch(r"(?:\? n \w+|[A-Z]\d+(?: \d+)?): (.*)", sentence, re.DOTALL)
+        super().__init__(f"{code}: {begins[1] if begins else sentence}")
         self.code, self.sentence = code, sentence
 
 
@@ -42,7 +46,7 @@ class NoReport(Exception):
     answer = ""
 
     def __init__(self):
-        self.sentence = " ".join(codes.meaning(self.answer))
+        self.sentence = ". ".join(codes.meaning(self.answer))
         super().__init__(f"{self.answer}: {self.sentence}")
 
 
@@ -109,26 +113,34 @@ class Measure:
             raise Problem(f"`{text}` is no measure: written as `queue LINE AVE.TIME`, `head END TIME` or `class WAITS 300 CUM.%`")
         entity = words[1].upper() if own else ""
         wanted = "".join(words[own + 1 :]).upper()
-        column = next((it for it in KINDS[kind] if it.replace(" ", "").upper() == wanted), None)
+        columns = [it for it in KINDS[kind][own > 0 :] if it not in NO_NUMBERS]
+        column = next((it for it in columns if it.replace(" ", "").upper() == wanted), None)
         if column is None:
-            raise Problem(f"`{text}`: a {kind} has no column {' '.join(words[own + 1 :])}, but {', '.join(KINDS[kind][1:])}")
+            raise Problem(f"`{text}`: a {kind} has no column {' '.join(words[own + 1 :])}, but {', '.join(columns)}")
         return cls(kind, entity, column, words[2] if own == 2 else "")
 
     def __str__(self) -> str:
         return " ".join(it for it in (self.kind, self.entity, self.limit, self.column) if it)
 
+    def is_of(self, row: dict[str, str]) -> bool:
+        """Whether a row of the kind is of the entity."""
+        if self.kind == "class":
+            return row["TABLE"] == self.entity and row["TO"] == self.limit
+        if self.kind == "block":
+            return self.entity in (row["LABEL"], row["LOC"])
+        return self.kind == "head" or row[KINDS[self.kind][0]] == self.entity
+
+    def among(self, rows: Iterable[dict[str, str]]) -> float | None:
+        """The measure among the rows of its kind; None where the run has no figure."""
+        return figure(self.kind, self.column, next(filter(self.is_of, rows), None))
+
     def of(self, report: "Report") -> float | None:
         """The measure in a report; None where the run has no figure."""
-        rows_of = report.kinds.get(self.kind, [])
-        if self.kind == "head":
-            row = rows_of[0]
-        elif self.kind == "class":
-            row = next((it for it in rows_of if it["TABLE"] == self.entity and it["TO"] == self.limit), None)
-        elif self.kind == "block":
-            row = next((it for it in rows_of if self.entity in (it["LABEL"], it["LOC"])), None)
-        else:
-            row = next((it for it in rows_of if it[KINDS[self.kind][0]] == self.entity), None)
-        return figure(self.kind, self.column, row)
+        rows = report.kinds.get(self.kind, [])
+        if self.kind == "class" and not any(map(self.is_of, rows)):
+            if limits := [row["TO"] for row in rows if row["TABLE"] == self.entity and row["TO"]]:
+                raise Problem(f"no class of {self.entity} goes up to {self.limit}, but to {', '.join(limits)}")
+        return self.among(rows)
 
 
 class Row:
@@ -303,6 +315,15 @@ class Reports(list):
         return html_table(titles, cells)
 
 
+def after(line: str, texts: list[str]) -> list[str]:
+    """What the statements would be after an edit."""
+    word, place, *text = line.split(" ", 2)
+    if word not in ("insert", "delete", "change"):
+        return texts
+    at = int(place) - 1
+    return texts[:at] + text + texts[at + (word != "insert") :]
+
+
 def explained(end: Ended) -> Ended:
     """The end of a session, with what its code means."""
     stop = re.match(r"stopped: (F\d)", end.told)
@@ -332,6 +353,8 @@ class Bench:
 
     def ask(self, line: str) -> tuple[str, list]:
         """The answer to a script's line, as the program has it. A model that is refused is told at the first one."""
+        if "\n" in line or any(ord(it) > 255 for it in line):
+            raise Problem("a line of a script is one line of plain letters, digits and signs")
         try:
             return self.session.ask(line)
         except Ended as end:
@@ -341,10 +364,10 @@ class Bench:
         told = re.fullmatch(r"model refused: (.*)", end.told.split("\n")[0])
         if told is None:
             return None
+        lines = (Model.read(self.model.path) if self.model.path != "-" else self.model).lines()
         if line := re.fullmatch(r"line (\d+) (L\d.*)", told[1]):
-            lines = (Model.read(self.model.path) if self.model.path != "-" else self.model).lines()
             return Refused(f"line {line[1]} {line[2]}", " ".join(codes.line_fault(line[2], lines[int(line[1]) - 1])))
-        return Refused(told[1], " ".join(codes.said(told[1])))
+        return Refused(told[1], " ".join(codes.model_fault(told[1], [text for _, text in codes.joined(lines)])))
 
     def edit(self, line: str) -> int:
         """Makes an edit, with places by label or text where one likes; the version that it makes. `Refused` else."""
@@ -365,7 +388,7 @@ class Bench:
         if rest.startswith("L") and not line.startswith("capacity"):
             return Refused(told, " ".join(codes.line_fault(rest, line.split(" ", 2)[2])))
         if rest.startswith("M"):
-            return Refused(told, " ".join(codes.said(rest)))
+            return Refused(told, " ".join(codes.model_fault(rest, after(line, self.list()))))
         return Refused(told, " ".join(codes.edit_fault(code, line, self.list())))
 
     # ---- edits

@@ -21,6 +21,7 @@ from . import codes, statements
 from .answers import answers
 from .command import Problem
 from .program import Model, ran
+from .script import name_of
 
 # What wakes nobody who waits at a TEST or a GATE.
 NEVER_WAKES = ["C1", "AC1", "M1", "TG1", "RN", "P", "PR", "XN1"]
@@ -289,7 +290,7 @@ def main(words: list[str]) -> int:
     session = ran(model, words[1:], ["list"])
     told = session.stderr.decode("latin-1").strip().split("\n")[0]
     if told.startswith("model refused"):
-        print("\n".join(refused(model, told)))
+        print("\n".join(name_of(line) for line in refused(model, told)))
         return 1
     if session.returncode:
         raise Problem(told or f"the program ended with status {session.returncode}")

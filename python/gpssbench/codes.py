@@ -84,7 +84,7 @@ def unknown_verb(text: str) -> str | None:
     for word in words:
         if verb := abbreviated(word):
             return f"no verb is called {word}; {verb}? Verbs are written whole."
-        if word in LEFT_OUT and not word.isdigit():
+        if word in LEFT_OUT and not word.isdecimal():
             return left_out_cure(word)
     near = [(verb, word) for word in words if (verb := verb_meant(word))]
     if near:
@@ -126,13 +126,15 @@ def is_number_above(word: str) -> bool:
 def bad_operand(code: str, text: str) -> str | None:
     """What stands in the place of an operand that is refused, and what to write."""
     try:
-        label, verb, _, listed = statements.parts(text.split("|")[0])
+        label, verb, operator, listed = statements.parts(text.split("|")[0])
     except statements.Fault:
         return None
     place = int(code.split(" ")[1])
     word = operand(text, place)[1]
     attribute = re.match(r"\(?([A-Z]+)\$", word)
-    if label is None and place == 1 and word.split(",")[0] in statements.VERBS:
+    bare = word.rstrip("+-")
+    is_first = label is None and place == 1 and not operator and word != verb
+    if is_first and word.split(",")[0] in statements.VERBS:
         return f"is the label a verb's name? {verb} is read as the verb, and {word} as its operand: choose another label."
     if verb == "TRANSFER" and place == 1:
         if f"TRANSFER {word}" in TRANSFERS:
@@ -150,6 +152,10 @@ def bad_operand(code: str, text: str) -> str | None:
         return "values go from -1,000,000,000 to 1,000,000,000."
     if re.search(r"[*/^]", word):
         return r"in an expression `#` multiplies, `\` divides whole and `@` is the remainder; it stands in parentheses."
+    if bare in statements.VERBS:
+        return f"{bare} is a verb and so no name; call it {bare}_1, for instance, here and where it is defined."
+    if re.fullmatch(rf"({'|'.join(statements.CLASSES)})", bare):
+        return f"{bare} is a class of attributes and so no name; call it {bare}_1, for instance, or write {bare}$Name."
     if verb in ("START", "STORAGE") and re.fullmatch(r"-[0-9]+|0+", word):
         return "a count from 1 to 1,000,000,000 stands here."
     if re.fullmatch(r"-[A-Z].*", word):
@@ -187,13 +193,18 @@ TRANSFERS = {
 CLASSES_WITH_NAMES = [f"{it}$" for it in statements.CLASSES]
 
 
+def shown(text: str) -> str:
+    """A line as it is shown: of one that is too long, the beginning."""
+    return text if len(text) <= 250 else text[:60] + " .."
+
+
 def line_fault(code: str, text: str) -> list[str]:
     """The lines on a statement that is refused: the line, the operand that is meant, and what to do."""
     place = code.split(" ")[1:]
-    line = f"The line is `{text.strip()}`."
+    line = f"The line is `{shown(text.strip())}`."
     if place:
         name, word = operand(text, int(place[0]))
-        line = line[:-1] + f", and in it {name}{f', `{word}`' if word else ''}."
+        line = line[:-1] + f", and in it {name}{f', `{shown(word)}`' if word else ''}."
     cure = None
     if code == "L3":
         cure = unknown_verb(text)

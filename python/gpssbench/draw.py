@@ -148,8 +148,8 @@ def of_data(path: str, column: str | None) -> tuple[Pairs, float, float]:
         values = sorted(float(text) for text in texts if text.strip())
     except ValueError as why:
         raise Problem(f"{path}: {why}") from None
-    if len(values) < 2 or values[0] < 0:
-        raise Problem(f"{path}: two numbers or more are wanted, and none below 0")
+    if len(values) < 2 or not all(0 <= it <= 1_000_000_000 for it in values):
+        raise Problem(f"{path}: two numbers or more are wanted, from 0 to 1,000,000,000")
     steps = min(100, len(values) - 1)
     pairs = []
     for at in range(steps + 1):

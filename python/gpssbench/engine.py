@@ -16,7 +16,7 @@ from .program import Model, ran
 MOST = 32
 # How often a chunk is tried whose program was killed.
 TRIES = 3
-# The sections that are kept row by row.
+# The sections that are kept row by row, whatever is measured.
 KEPT = ("head", "facility", "queue", "storage", "table")
 WITHOUT = {"toolong": "TOOLONG", "nostart": "NOSTART", "memory": "MEMORY"}
 
@@ -56,9 +56,9 @@ def result_of(chunk: dict, parts: list) -> dict:
         kept = {}
         for titles, cells in sections:
             kind = KIND_OF[tuple(titles)]
-            if kind in KEPT:
+            if kind in KEPT or kind in chunk["measured"]:
                 kept[kind] = cells
-            elif kind == "block":
+            if kind == "block":
                 for label, position, verb, entry, current, _ in cells:
                     sums = blocks.setdefault(position, [label, verb, 0, 0])
                     sums[2] += int(entry)

@@ -48,7 +48,7 @@ class Explainer:
     def after(self, line: str) -> list[str]:
         """The statements that an edit's line would make."""
         word, place, text = (line.split(" ", 2) + ["", ""])[:3]
-        texts, at = list(self.listed()), int(place) - 1 if place.isdigit() else 0
+        texts, at = list(self.listed()), int(place) - 1 if place.isdecimal() else 0
         if word in ("insert", "change"):
             texts[at : at + (word == "change")] = [text]
         elif word == "delete":

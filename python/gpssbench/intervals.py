@@ -92,7 +92,7 @@ def main(words: list[str]) -> None:
         shown += [(name, start, list(runs.values())) for name, runs in scenarios.items()]
         for name in list(scenarios)[1:]:
             names = short[name], short[base]
-            if not (names[0].isdigit() and names[1].isdigit()):
+            if not (names[0].isdecimal() and names[1].isdecimal()):
                 names = name, base
             shown.append((f"{names[0]} less {names[1]}", start, differences(scenarios[base], scenarios[name])))
     width = max(WIDTH, *(len(what) for what, _, _ in shown))

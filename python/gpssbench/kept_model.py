@@ -112,8 +112,10 @@ class KeptModel:
         self.statements, self.tail = of_file(text.rstrip("\n").split("\n"), self.bench.list())
         self.undone: list[str] = []
         self.done: list[tuple[str, str]] = []
-        self.named: dict[str, list[str]] = {}
-        self.base_texts = [it.text for it in self.statements]
+        # the horizon is no statement: it is kept beside them, None as it was opened
+        self.horizon: int | None = None
+        self.named: dict[str, tuple[list[str], int | None]] = {}
+        self.base_texts, self.base_horizon = [it.text for it in self.statements], self.horizon
         self.known_baseline: tuple[tuple, Reports] | None = None
         self.opened = list(self.base_texts)
         self.pinned: str | None = None
@@ -124,18 +126,21 @@ class KeptModel:
     # ---- edits
 
     def replay(self) -> int:
-        """Makes the edits of the journal again; how many they are. A last line that is broken off was shown to nobody."""
-        with open(self.journal, encoding="latin-1") as file:
+        """Makes the edits of the journal again; how many they are, replications apart. A last line that is broken off was shown to nobody, and
+        is cut off, so that the next edit begins a line."""
+        with open(self.journal, encoding="latin-1", newline="") as file:
             text = file.read()
-        whole, _, _ = text.rpartition("\n")
+        whole, ends, rest = text.rpartition("\n")
+        if rest:
+            os.truncate(self.journal, len(whole + ends))
         journal, self.journal, count = self.journal, None, 0
-        for number, line in enumerate(whole.split("\n"), 1):
+        for number, line in enumerate(whole.replace("\r", "").split("\n"), 1):
             try:
                 if line.startswith("# "):
-                    self.named[line[2:]] = self.texts()
+                    self.named[line[2:]] = self.texts(), self.horizon
                 elif line.strip():
                     self.edit(line)
-                    count += 1
+                    count += not line.startswith("replicate ")
             except (Refused, Problem) as why:
                 raise Problem(f"{journal}, line {number}, `{line}`: {why}") from None
         self.journal = journal
@@ -169,6 +174,8 @@ class KeptModel:
             self.bench.replications[int(rest[0])] = int(rest[1])
         elif word == "drop":
             self.bench.replications.pop(int(rest[0]), None)
+        elif word == "horizon":
+            self.horizon = int(rest[0])
         self.note(line)
         self.done.append((line, back))
         return self.follow(word, rest, before)
@@ -185,7 +192,7 @@ class KeptModel:
         """The edit that takes an edit back; nothing where there is none."""
         word, *rest = line.split(maxsplit=2)
         texts = self.texts()
-        at = int(rest[0]) - 1 if rest and rest[0].isdigit() else -1
+        at = int(rest[0]) - 1 if rest and rest[0].isdecimal() else -1
         if word == "insert":
             return f"delete {at + 1}"
         if word == "delete" and 0 <= at < len(texts):
@@ -209,7 +216,7 @@ class KeptModel:
     def follow(self, word: str, rest: list[str], before: list[str]) -> str:
         """Brings the statements to what `list` shows now, and says what differs."""
         now = self.bench.list()
-        at = int(rest[0]) - 1 if rest and rest[0].isdigit() else 0
+        at = int(rest[0]) - 1 if rest and rest[0].isdecimal() else 0
         if word == "insert":
             self.statements.insert(at, Statement(now[at], [], laid_out(now[at])))
             return f"{at + 1}: inserted {now[at]}"
@@ -317,20 +324,22 @@ class KeptModel:
 
     def pin(self) -> None:
         """Takes the model as it is for the baseline."""
-        self.base_texts, self.known_baseline, self.pinned = self.texts(), None, f"version {self.bench.version}"
+        self.base_texts, self.base_horizon = self.texts(), self.horizon
+        self.known_baseline, self.pinned = None, f"version {self.bench.version}"
 
     def name_version(self, name: str) -> None:
         """Gives the model as it is now a name, which the journal keeps as a comment."""
         if not re.fullmatch(r"[\w .,=+-]{1,60}", name.strip(), re.ASCII):
             raise Problem("a name has up to 60 letters, digits, blanks and signs")
-        self.named[name.strip()] = self.texts()
+        self.named[name.strip()] = self.texts(), self.horizon
         self.note(f"# {name.strip()}")
 
     def compare_with(self, name: str) -> None:
         """Takes a version that has a name for the baseline; without a name the model as it was opened."""
         if name and name not in self.named:
             raise Problem(f"no version is called {name}")
-        self.base_texts = list(self.named[name] if name else self.opened)
+        texts, self.base_horizon = self.named[name] if name else (self.opened, None)
+        self.base_texts = list(texts)
         self.known_baseline, self.pinned = None, name or None
 
     def baseline(self, start: int, each: Callable[[int], None] | None = None) -> Reports:
@@ -339,7 +348,8 @@ class KeptModel:
         key = tuple(seeds.items()), start
         if self.known_baseline is None or self.known_baseline[0] != key:
             text = "\n".join(it.replace("|", "\n") for it in self.base_texts) + "\n"
-            with Bench("-", text=text, seed=seeds.get(1, 1), **self.words) as other:
+            words = self.words if self.base_horizon is None else {**self.words, "horizon": self.base_horizon}
+            with Bench("-", text=text, seed=seeds.get(1, 1), **words) as other:
                 for number, seed in seeds.items():
                     if number != 1:
                         other.edit(f"replicate {number} {seed}")

@@ -15,6 +15,9 @@ KEYS = {
     "factors", "alternatives", "measures", "best",
 }
 AS_IT_IS = "as it is"
+# Edits that a study makes itself, and those that a plan may have.
+OF_REPLICATIONS = ("seed", "replicate", "drop")
+EDITS = tuple(it for it in script.EDITS if it not in OF_REPLICATIONS)
 
 
 @dataclass
@@ -201,8 +204,11 @@ def prepare(plan: Plan, model: str) -> None:
                 raise Problem(f"the program ended: {why}") from None
             for edit in cell.edits:
                 try:
-                    if not edit.split() or edit.split()[0] not in script.EDITS:
-                        raise Problem(f"an edit begins with one of {', '.join(script.EDITS)}")
+                    word = edit.partition(" ")[0]
+                    if word in OF_REPLICATIONS:
+                        raise Problem("the study chooses the replications and their seeds")
+                    if word not in EDITS:
+                        raise Problem(f"an edit begins with one of {', '.join(EDITS)}")
                     bench.edit(edit)
                 except (Refused, Problem) as why:
                     raise Problem(f"scenario {cell.name}: the edit `{edit}` is refused: {why}") from None
@@ -212,10 +218,21 @@ def prepare(plan: Plan, model: str) -> None:
             raise Problem(f"scenario {cell.name}: start = {plan.start}, and the model has {starts} START")
     drop_twin(plan)
     for name, measure in plan.measures.items():
-        there = [it for cell in plan.cells for it in (named(cell.texts, measure),) if it is not None]
-        if there and not any(measure.entity in it for it in there):
-            known = sorted({it for names in there for it in names})
-            raise Problem(f"measures, {name}: no {measure.kind} {measure.entity}, but {', '.join(known) or 'none'}")
+        if why := of_nothing(measure, [cell.texts for cell in plan.cells]):
+            raise Problem(f"measures, {name}: {why}")
+
+
+def of_nothing(measure: Measure, models: list[list[str]]) -> str | None:
+    """Why a measure is of nothing in any of some models; None where it is of something, or only a run can tell."""
+    there = [it for texts in models for it in (named(texts, measure),) if it is not None]
+    if there and not any(measure.entity in it for it in there):
+        known = sorted({it for names in there for it in names})
+        return f"no {measure.kind} {measure.entity}, but {', '.join(known) or 'none'}"
+    if measure.kind == "class":
+        limits = {limit for texts in models for limit in limits_of(texts, measure.entity)}
+        if measure.limit not in map(str, limits):
+            return f"no class of {measure.entity} goes up to {measure.limit}, but to {', '.join(map(str, sorted(limits)))}"
+    return None
 
 
 def drop_twin(plan: Plan) -> None:
@@ -233,7 +250,7 @@ def drop_twin(plan: Plan) -> None:
 
 VERBS_OF = {
     "facility": ("SEIZE", "RELEASE"), "queue": ("QUEUE", "DEPART"), "storage": ("STORAGE",), "table": ("TABLE",),
-    "class": ("TABLE",),
+    "class": ("TABLE",), "block": statements.BLOCKS,
 }
 
 
@@ -244,8 +261,14 @@ def named(texts: list[str], measure: Measure) -> set[str] | None:
     listed = codes.read(texts)
     numbers = {it.label: str(it.number(0)) for it in listed if it.verb == "EQU"}
     found = set()
+    if measure.kind == "block" and measure.entity.isdecimal():
+        blocks = sum(it.verb in statements.BLOCKS for it in listed)
+        return set(map(str, range(1, blocks + 1)))
     for it in listed:
         if it.verb in VERBS_OF[measure.kind]:
+            if measure.kind == "block":
+                found |= {it.label} - {None}
+                continue
             if measure.kind in ("storage", "table", "class"):
                 found.add(it.label)
                 continue
@@ -254,6 +277,15 @@ def named(texts: list[str], measure: Measure) -> set[str] | None:
                 return None
             found.add(numbers.get(leaf[1], str(leaf[1])))
     return found
+
+
+def limits_of(texts: list[str], table: str) -> list[int]:
+    """The upper limits of the classes of a table; the last class has none."""
+    for it in codes.read(texts):
+        if it.verb == "TABLE" and it.label == table:
+            first, width, count = map(int, it.operands[1:4])
+            return [first + at * width for at in range(count - 1)]
+    return []
 
 
 def streams_of(texts: list[str]) -> tuple[int, ...]:

@@ -28,11 +28,7 @@ def measured(measure: Measure, outcome: str, kept: dict[str, list[list[str]]]) -
     """A measure of a run; None where it has no figure."""
     if outcome.startswith(LEFT_OUT):
         return None
-    rows = kept.get(measure.kind, [])
-    if measure.kind == "head":
-        return figure("head", measure.column, row_of("head", rows[0]))
-    found = next((it for it in rows if it[0] == measure.entity), None)
-    return figure(measure.kind, measure.column, None if found is None else row_of(measure.kind, found))
+    return measure.among(row_of(measure.kind, cells) for cells in kept.get(measure.kind, []))
 
 
 def short(value: float | None) -> str:

@@ -109,13 +109,13 @@ def is_free(taken: list[int], at: int, draws: int) -> bool:
 
 def main(words: list[str]) -> None:
     read = Words(words, "--draws --rmult", "--plain")
-    if len(read.rest) != 1 or not read.rest[0].isdigit() or not 1 <= int(read.rest[0]) <= 100_000:
+    if len(read.rest) != 1 or not read.rest[0].isdecimal() or not 1 <= int(read.rest[0]) <= 100_000:
         raise Problem("how many seeds? A number from 1 to 100,000 is wanted")
     draws = read.number("--draws", 100_000, 1, PERIOD)
     streams = PLAIN if "--plain" in read.flags else RMULT
     if "--rmult" in read.options:
         values = read.options["--rmult"].split(",")
-        if not all(it == "" or it.isdigit() and 1 <= int(it) <= PERIOD for it in values) or len(values) > 7:
+        if not all(it == "" or it.isdecimal() and 1 <= int(it) <= PERIOD for it in values) or len(values) > 7:
             raise Problem("--rmult wants values from 1 to 2,147,483,646 with commas, seven at most")
         streams = tuple(int(it or at) for at, it in enumerate([*values, *[""] * 7][:7], 1))
     for seed in far_apart(int(read.rest[0]), draws, streams):

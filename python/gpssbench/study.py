@@ -124,6 +124,7 @@ class Study:
     def chunks(self, wanted: dict[str, int]) -> list[dict]:
         """The sessions that are still to run, for so many replications of each scenario."""
         found = []
+        measured = sorted({measure.kind for measure in self.plan.measures.values()})
         for at, cell in enumerate(self.plan.cells):
             for first in range(0, wanted[cell.name], MOST):
                 if not self.parts.has(at, first):
@@ -131,7 +132,7 @@ class Study:
                     found.append({
                         "cell": cell.name, "at": at, "first": first, "model": self.model, "edits": cell.plain,
                         "seeds": [[number + 1, self.seeds[number]] for number in numbers], "start": self.plan.start,
-                        "words": self.plan.words(),
+                        "words": self.plan.words(), "measured": measured,
                     })
         return found
 
@@ -215,6 +216,14 @@ def model_of(plan: Plan, path: str) -> str:
         raise Problem(f"the model {at}: {why.strerror}") from None
 
 
+def text_of(written: bytes, path: str) -> str:
+    """The text of a plan: TOML is UTF-8."""
+    try:
+        return written.decode("utf-8").replace("\r\n", "\n")
+    except UnicodeDecodeError as why:
+        raise Problem(f"{path} is no TOML: byte {why.start + 1} is no UTF-8") from None
+
+
 def main(words: list[str]) -> int:
     read_words = Words(words, "--to --jobs --on", "--resume --parquet")
     if len(read_words.rest) != 1:
@@ -225,8 +234,8 @@ def main(words: list[str]) -> int:
         with_packages("distributed")
     if "--parquet" in read_words.flags:
         with_packages("pyarrow")
-    with open(path, encoding="utf-8") as file:
-        plan = read(file.read())
+    with open(path, "rb") as file:
+        plan = read(text_of(file.read(), path))
     model = model_of(plan, path)
     prepare(plan, model)
     os.makedirs(folder, exist_ok=True)

@@ -14,19 +14,31 @@ from .figures import read_table
 from .stats import fixed
 
 
+# The columns that a file of a study has at least.
+WANTED = {
+    "cells.csv": ["cell", "measure", "figure", "n", "of", "mean", "half", "least", "greatest"],
+    "pairs.csv": ["kind", "measure", "cell", "less", "n", "mean", "half", "apart"],
+}
+
+
 def table(folder: str, name: str) -> list[dict[str, str]]:
     path = os.path.join(folder, name)
     if not os.path.exists(path):
         raise Problem(f"{folder} is no study: {name} is missing")
-    return read_table(path)[1]
+    titles, rows = read_table(path)
+    if missing := [title for title in WANTED.get(name, ["cell"]) if title not in titles]:
+        raise Problem(f"{folder} is no study: {name} has no column {missing[0]}")
+    return rows
 
 
 def plan_of(folder: str) -> dict:
     try:
         with open(os.path.join(folder, "plan.toml"), "rb") as file:
             return tomllib.load(file)
-    except (OSError, tomllib.TOMLDecodeError):
+    except OSError:
         raise Problem(f"{folder} is no study: plan.toml is missing") from None
+    except ValueError as why:
+        raise Problem(f"{folder} is no study: plan.toml is no TOML: {why}") from None
 
 
 def standing(rows: list[dict[str, str]], pairs: list[dict[str, str]], which: str) -> dict[str, str]:

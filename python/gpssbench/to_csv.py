@@ -63,7 +63,7 @@ def by_running(words: list[str]) -> tuple[list[tables.Run], int]:
         sys.stderr.write(session.stderr.decode("latin-1"))
     if session.returncode and not session.stdout:
         raise Problem("the program wrote nothing")
-    seed = next((int(after) for word, after in zip(asked, asked[1:]) if word == "--seed" and after.isdigit()), 1)
+    seed = next((int(after) for word, after in zip(asked, asked[1:]) if word == "--seed" and after.isdecimal()), 1)
     reader = tables.Reader(1, lines, seed)
     return read_session(reader, session.stdout, "the session"), 1 if session.returncode or reader.broken else 0
 

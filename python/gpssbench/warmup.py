@@ -11,9 +11,10 @@ standard error. With --csv the curve is a table, too."""
 import csv
 
 from .answers import figure
-from .bench import Bench, Measure, Report
+from .bench import Bench, Measure, NoReport, Refused, Report
 from .command import Problem, Words
-from .results import row_of
+from .plan import of_nothing
+from .program import Ended
 from .stats import estimate, fixed, moving_average, mser
 
 # What an average is over: the time, or a count of the same row.
@@ -24,9 +25,7 @@ OVER_COUNT = {("facility", "AVE. TIME"): "ENTRIES", ("queue", "AVE.TIME"): "ENTR
 def weighed(measure: Measure, report: Report) -> tuple[float, float] | None:
     """A measure as a sum and what it is divided by; None where there is no row yet."""
     rows = report.kinds.get(measure.kind, [])
-    row = report.kinds["head"][0] if measure.kind == "head" else next(
-        (it for it in rows if measure.entity in (it[next(iter(it))], it.get("LOC"))), None
-    )
+    row = next(filter(measure.is_of, rows), None)
     value = figure(measure.kind, measure.column, row)
     if value is None:
         return None
@@ -68,6 +67,8 @@ def put_aside(bench: Bench) -> None:
 def curve(model: str, measure: Measure, every: int, until: int, replications: int, seed: int) -> list[list[float | None]]:
     """The values of the replications, moment by moment."""
     with Bench(model, seed=seed) as bench:
+        if why := of_nothing(measure, [bench.list()]):
+            raise Problem(why)
         put_aside(bench)
         bench.replicate(replications)
         found, before = [], {}
@@ -96,7 +97,15 @@ def main(words: list[str]) -> None:
         raise Problem("more than 2,000 moments: take a greater --every")
     count = read.number("--replications", 8, 1, 32)
     window = read.number("--window", 5, 0, 1000)
-    values = curve(read.rest[0], measure, every, until, count, read.number("--seed", 1945846388, 1, 2147483646))
+    seed = read.number("--seed", 1945846388, 1, 2147483646)
+    with open(read.rest[0], "rb"):
+        pass  # a file that is not there is bad input
+    try:
+        values = curve(read.rest[0], measure, every, until, count, seed)
+    except Refused as why:
+        raise Problem(f"{read.rest[0]} is refused: {why}") from None
+    except (NoReport, Ended) as why:
+        raise Problem(f"{read.rest[0]}: {why}") from None
     found = [estimate(listed) for listed in values]
     if any(it is None for it in found):
         first = next((at for at, it in enumerate(found) if it is not None), len(found))

@@ -13,6 +13,7 @@ that is closed and a workbench that is started anew go on from there. Files are 
 alone. Several tabs see each other's edits; a tab that is not up to date is told so. Ctrl-C ends it.
 
 It wants Tornado; python/install installs it."""
+import fcntl
 import hmac
 import json
 import os
@@ -24,7 +25,7 @@ from concurrent.futures import ThreadPoolExecutor
 
 from . import codes, offers, script
 from .bench import NoReport, Refused, Report, Reports
-from .command import Problem, Words, lines_of, with_packages
+from .command import Problem, Words, lines_of, warn, with_packages
 from .kept_model import KeptModel, Steps, compare, cost, figures
 from .program import Ended
 from .stats import Estimate, fixed
@@ -60,9 +61,9 @@ class Desk:
         self.recorded: Steps = {}
         self.keeps = ""
         self.names: offers.Names = {}
-        is_new = not os.path.exists(self.path + ".edits")
+        self.held = None
         self.open()
-        for line in lines if self.kept and is_new else ():
+        for line in lines if self.kept and not self.kept.replayed else ():
             if line.word in script.EDITS:
                 try:
                     self.kept.edit(line.plain)
@@ -73,17 +74,34 @@ class Desk:
 
     # ---- opening
 
-    def open(self) -> None:
-        """Opens the model's file with the edits that were made, or keeps why it is refused."""
+    def open(self, count: int | None = None) -> None:
+        """Opens the model's file with the edits that were made, and at least so many replications, or keeps why it is
+        refused."""
+        self.hold()
         self.close()
         self.fault = self.reports = None
         self.recorded = {}
         try:
-            self.kept = KeptModel(self.path, self.seed, self.replications, self.path + ".edits", words=self.words)
+            self.kept = KeptModel(self.path, self.seed, count or self.replications, self.path + ".edits", words=self.words)
         except Refused as why:
             self.refused_model(why, self.text())
         except Problem as why:
             self.fault = {"text": self.text(), "code": "", "sentence": f"{self.path}.edits: {why}", "line": 0}
+
+    def hold(self) -> None:
+        """Holds the model's file, so that no other workbench writes to its edits, too."""
+        file = open(self.path, "rb")
+        if self.held and os.path.samestat(os.fstat(file.fileno()), os.fstat(self.held.fileno())):
+            file.close()
+            return
+        try:
+            fcntl.flock(file, fcntl.LOCK_EX | fcntl.LOCK_NB)
+        except BlockingIOError:
+            file.close()
+            raise Problem(f"{self.path} is open in another workbench: several tabs may show one") from None
+        if self.held:
+            self.held.close()
+        self.held = file
 
     def text(self) -> str:
         with open(self.path, encoding="latin-1", newline="") as file:
@@ -98,6 +116,11 @@ class Desk:
             self.kept.bench.close()
             self.kept = None
 
+    def end(self) -> None:
+        self.close()
+        if self.held:
+            self.held.close()
+
     def start(self) -> int:
         starts = self.kept.starts()
         if not starts:
@@ -109,7 +132,8 @@ class Desk:
     def state(self) -> dict:
         """All that a tab shows, but for what reports say."""
         files = sorted(name for name in os.listdir(self.folder) if name.endswith(".gps") and NAME.fullmatch(name))
-        found = {"kind": "state", "file": os.path.basename(self.path), "files": files, "fault": self.fault}
+        fault = self.fault and {**self.fault, **{it: script.name_of(self.fault[it]) for it in ("text", "sentence")}}
+        found = {"kind": "state", "file": os.path.basename(self.path), "files": files, "fault": fault}
         if self.kept is None:
             return {**found, "version": -1, "statements": []}
         counts, self.names = self.counts(), self.kept.names()
@@ -121,7 +145,8 @@ class Desk:
             position += is_block
             comment = " ".join(line.partition(";")[2].strip() for line in it.source[:1] if ";" in line)
             rows.append({
-                "text": it.text, "verb": verb, "changed": differs, "comment": comment, "front": [line.strip() for line in it.front],
+                "text": it.text, "verb": verb, "changed": differs, "comment": script.name_of(comment),
+                "front": [script.name_of(line.strip()) for line in it.front],
                 "counts": counts.get(str(position)) if is_block else None,
             })
         return {
@@ -143,8 +168,12 @@ class Desk:
 
     def shown(self) -> dict:
         """The figures over all replications, and what differs from the baseline."""
-        baseline = self.kept.baseline(self.start(), self.progress)
-        rows = []
+        rows, without = [], []
+        try:
+            baseline = self.kept.baseline(self.start(), self.progress)
+        except NoReport:
+            baseline = Reports([])
+            without = [f"the baseline has no report of START {self.start()}: `p` takes the model as it is for the baseline"]
         for it in compare(baseline, self.reports, True):
             if it.now is None and it.before is None:
                 continue
@@ -159,7 +188,7 @@ class Desk:
         missing = [f"replication {number}: {why}, {codes.meaning(why)[0]}" for number, why in self.reports.missing.items()]
         outcomes = [f"replication {it.replication}: {it.outcome}" for it in self.reports if it.outcome != "COMPLETE"]
         return {
-            "kind": "figures", "rows": rows, "missing": missing + outcomes, "start": self.start(), "classes": self.classes(),
+            "kind": "figures", "rows": rows, "missing": without + missing + outcomes, "start": self.start(), "classes": self.classes(),
             "baseline": self.kept.pinned or "the model as it was opened",
         }
 
@@ -230,10 +259,10 @@ class Desk:
         """The program is gone: begins anew from the edits on the disk."""
         given_up, self.gives_up = self.gives_up, False
         self.since = 0.0
-        texts, pinned = self.kept.base_texts, self.kept.pinned
-        self.open()
+        texts, horizon, pinned = self.kept.base_texts, self.kept.base_horizon, self.kept.pinned
+        self.open(1)
         if self.kept and pinned is not None:
-            self.kept.base_texts, self.kept.pinned = texts, pinned
+            self.kept.base_texts, self.kept.base_horizon, self.kept.pinned = texts, horizon, pinned
         self.tell(self.state())
         what = "the run was given up" if given_up else f"the program ended ({why}) and was started anew"
         self.tell({"kind": "said", "text": f"{what}; no edit is lost"})
@@ -252,10 +281,15 @@ class Desk:
             elif self.kept:
                 self.tell(self.shown())
         elif word == "text":
-            self.write_text(str(asked.get("text", "")))
+            # a tab's letters are written as UTF-8, as bytes that are read one by one
+            self.write_text(str(asked.get("text", "")).encode("utf-8", "replace").decode("latin-1"))
         elif word == "open":
-            self.path = self.in_folder(str(asked.get("name", "")), ".gps", True)
-            self.open()
+            before, self.path = self.path, self.in_folder(str(asked.get("name", "")), ".gps", True)
+            try:
+                self.open()
+            except Problem:
+                self.path = before
+                raise
             self.tell(self.state())
             self.simulate()
         elif self.kept is None:
@@ -344,7 +378,9 @@ class Desk:
         measures = "".join(
             f'{it.kind}_{it.entity.lower()} = "{it}"\n' for it, _ in figures(self.reports or []) if it.column in ("AVE.TIME", "UTIL.", "MEAN")
         ) or 'end = "head END TIME"\n'
-        return f'model = "{os.path.basename(self.path)}"\nstart = {self.start()}\nreplications = 100\n{alternative}\n[measures]\n{measures}'
+        horizon = f"horizon = {self.kept.horizon}\n" if self.kept.horizon else ""
+        front = f'model = "{os.path.basename(self.path)}"\nstart = {self.start()}\nreplications = 100\n{horizon}'
+        return f"{front}{alternative}\n[measures]\n{measures}"
 
     def write_text(self, text: str) -> None:
         """A model that was refused, mended: it is written once the program takes it."""
@@ -479,7 +515,9 @@ def main(words: list[str]) -> int:
     import asyncio
     import logging
 
+    from tornado.httpserver import HTTPServer
     from tornado.ioloop import PeriodicCallback
+    from tornado.netutil import bind_sockets
 
     logging.getLogger("tornado.access").setLevel(logging.ERROR)
 
@@ -487,21 +525,24 @@ def main(words: list[str]) -> int:
         token = secrets.token_urlsafe(24)
         hosts = {f"127.0.0.1:{port}", f"localhost:{port}"}
         desk_of = lambda tell: Desk(read.rest[0], seed, count, start, tell, lines, {"every": every})
-        app, desk, pulse = application(desk_of, token, hosts)
         try:
-            server = app.listen(port, address="127.0.0.1")
+            sockets = bind_sockets(port, "127.0.0.1")
         except OSError as why:
-            desk.close()
             raise Problem(f"port {port}: {why.strerror}; --port takes another one") from None
+        app, desk, pulse = application(desk_of, token, hosts)
+        server = HTTPServer(app)
+        server.add_sockets(sockets)
         if desk.kept and desk.kept.replayed:
-            print(f"{desk.kept.replayed} edits of {desk.path}.edits were made again", flush=True)
+            print(f"the edits of {desk.path}.edits were made again: {desk.kept.replayed}", flush=True)
+            if lines:
+                warn(f"{read.rest[1]} is left out, since {desk.path} has edits of its own; move that .edits away for it")
         print(f"http://127.0.0.1:{port}/{token}/", flush=True)
         PeriodicCallback(pulse, 250).start()
         try:
             await asyncio.Event().wait()
         finally:
             server.stop()
-            desk.close()
+            desk.end()
 
     try:
         asyncio.run(serve())

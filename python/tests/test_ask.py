@@ -35,7 +35,27 @@ class Prompts(InFolder):
         self.assertEqual(told.count("there is nothing to undo"), 1)
         self.assertIn("undone: horizon 500\n", self.ask("horizon 500", "undo"))
 
+    def test_a_baseline_has_its_horizon(self):
+        told = self.ask("horizon 5000", "compare", "base", "compare", "undo", "compare")
+        self.assertIn("queue LINE ENTRY", told.split("is the baseline")[0])
+        after = told.split("is the baseline")[1].split("\n")
+        self.assertEqual(after[1], "nothing differs")
+        self.assertIn("undone: horizon 5000", after)
+        self.assertTrue(any(line.startswith("queue LINE ENTRY") for line in after), after)
+        kept = KeptModel(self.path("desk.gps"), replications=2)
+        self.addCleanup(kept.bench.close)
+        kept.edit("horizon 5000")
+        kept.name_version("short")
+        kept.undo()
+        for name, differs in (("", False), ("short", True)):
+            kept.compare_with(name)
+            found = compare(kept.baseline(1), kept.reports(1))
+            self.assertEqual(any(it.change.mean for it in found), differs, name)
+
     def test_what_is_wrong_is_said(self):
+        told = self.ask("report \u00b2", "seed \u00b2 4", "change 1 \u20ac", "delete 9\u00b2")
+        self.assertEqual(told.count("\n"), 4, told)
+        self.assertIn("plain letters", told)
         told = self.ask("change 5 ADVANCE 1.5", "hlep", "explain M3", "save /nowhere/x.gps", "report 1 9", "report 7")
         for part in ("no decimals", "no command hlep; help?", "M3: ", "/nowhere/x.gps: No such file", "nostart: ", "noreplication: "):
             self.assertIn(part, told)
@@ -71,6 +91,8 @@ class Prompts(InFolder):
         self.assertEqual((again.replayed, again.texts()[4]), (1, "SERVE ADVANCE 140,40"))
         found = compare(again.baseline(1), again.reports(1))
         self.assertTrue(any(it.change.mean for it in found))
+        again.edit("change 1 GENERATE 190,60")
+        self.assertEqual(self.read("desk.edits"), b"change 5 SERVE ADVANCE 140,40\nchange 1 GENERATE 190,60\n")
 
     def test_names_are_offered_by_their_place(self):
         text = """Beds STORAGE 3

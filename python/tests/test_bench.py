@@ -72,6 +72,17 @@ class OpenModel(InFolder):
         with self.assertRaises(Refused) as refused:
             bench.capacity("Clerk", 2)
         self.assertIn("CLERK is a facility", refused.exception.sentence)
+        self.assertTrue(str(refused.exception).startswith("E6: no `STORAGE` has the name. What to do: "))
+        with self.assertRaises(Refused) as refused:
+            bench.change("@Serve", "ADVANCE Lot")
+        self.assertEqual(refused.exception.code, "E3 M3")
+        self.assertIn("The name that is meant is LOT, in `SERVE ADVANCE Lot`.", refused.exception.sentence)
+        with self.assertRaises(Refused) as refused:
+            bench.edit("seed 1 0")
+        self.assertEqual(refused.exception.code, "E3 M6")
+        with self.assertRaises(Refused) as refused:
+            self.open("GENERATE 5\nTRANSFER ,Out\n").list()
+        self.assertIn("The name that is meant is OUT, in `TRANSFER ,Out`.", refused.exception.sentence)
         with self.assertRaisesRegex(Problem, "no statement has the label"):
             bench.change("@Nobody", "ADVANCE 5")
         self.assertEqual(bench.version, 0)
@@ -79,6 +90,14 @@ class OpenModel(InFolder):
             self.open("GENERATE 5\nADVANSE 3\n").list()
         self.assertEqual(refused.exception.code, "line 2 L3")
         self.assertIn("ADVANCE?", refused.exception.sentence)
+
+    def test_a_class_is_called_by_its_limit(self):
+        bench = self.open("Times TABLE M1,2,2,4\nGENERATE 10\nADVANCE 3\nTABULATE Times\nTERMINATE 1\nSTART 5\n")
+        found = bench.reports()
+        self.assertEqual(found.values("class TIMES 4 FREQUENCY"), [5.0])
+        self.assertEqual(found.values("class TIMES 2 FREQUENCY"), [0.0])
+        with self.assertRaisesRegex(Problem, "no class of TIMES goes up to 3, but to 2, 4, 6"):
+            found.values("class TIMES 3 FREQUENCY")
 
     def test_queries_without_a_report(self):
         bench = self.open(limit=100)

@@ -102,6 +102,9 @@ class Distributions(InFolder):
         self.assertIn("mean 200.000", ran.stdout.decode().split("\n")[0])
         bad = tool("draw", "--data", path, "--column", "none")
         self.assertEqual((bad.returncode, bad.stderr.count(b"\n")), (2, 1))
+        for figure in ("nan", "inf", "1e400", "5e9", "-1"):
+            bad = tool("draw", "--data", self.write("bad.csv", f"5\n{figure}\n"))
+            self.assertEqual((bad.returncode, bad.stderr.count(b"\n")), (2, 1), bad.stderr)
 
     def test_shares_of_the_gamma_distribution(self):
         # 1 - e^-x (1 + x) for the shape 2, and 1 - e^-x for 1

@@ -11,7 +11,7 @@ import time
 import unittest
 
 from common import DESK, ROOT, SEED, InFolder, tool
-from gpssbench import plan, seeds, stats, study
+from gpssbench import Bench, plan, seeds, stats, study
 from gpssbench.command import SYSTEM, Problem, has
 
 PLAN = """model = "desk.gps"
@@ -101,6 +101,15 @@ class Studies(InFolder):
         shown = tool("summary", self.path("one"))
         self.assertEqual((shown.returncode, shown.stderr), (0, b""))
         self.assertIn(" best\n", shown.stdout.decode())
+        for name, written, told in (
+            ("plan.toml", b"\xff", "plan.toml is no TOML"),
+            ("pairs.csv", b"kind,measure\n", "pairs.csv has no column cell"),
+            ("cells.csv", b"\xff", "cells.csv is no CSV"),
+        ):
+            with open(os.path.join(self.folder, "one", name), "wb") as file:
+                file.write(written)
+            bad = tool("summary", self.path("one"))
+            self.assertEqual((bad.returncode, bad.stderr.count(b"\n"), told.encode() in bad.stderr), (2, 1, True), bad.stderr)
 
     def test_a_cluster_that_loses_a_worker_writes_the_same(self):
         python = sys.executable if has("distributed") else SYSTEM
@@ -240,6 +249,41 @@ exec {os.environ['GPSSBENCH']} "$@"
         self.assertEqual(lines, ["1/3 cells", "2/3 cells", "3/3 cells"])
         self.assertTrue(told.getvalue().endswith("  0 s, 0 s to go  "))
 
+    def test_classes_and_blocks_are_measured(self):
+        table = "Times TABLE M1,200,100,3\n"
+        self.write("desk.gps", table + DESK.replace("TERMINATE 1", "TABULATE Times\nTERMINATE 1"))
+        measures = {"few": "class TIMES 300 FREQUENCY", "share": "class TIMES 300 CUM.%", "served": "block Serve ENTRY COUNT",
+                    "held": "block 5 CURRENT COUNT"}
+        listed = "".join(f'{name} = "{text}"\n' for name, text in measures.items())
+        self.write("plan.toml", f'model = "desk.gps"\nreplications = 4\n[measures]\n{listed}')
+        ran = self.study("of")
+        self.assertEqual(ran.returncode, 0, ran.stderr)
+        with Bench(self.path("desk.gps"), seed=SEED) as bench:
+            bench.replicate(4)
+            rows = [report.text.split("\n") for report in bench.reports()]
+        cells = [[line.split() for line in text] for text in rows]
+        wanted = {
+            "few": [int(row[3]) for text in cells for row in text if row[:3] == ["200", "-", "300"]],
+            "share": [float(row[4]) for text in cells for row in text if row[:3] == ["200", "-", "300"]],
+            "served": [int(row[3]) for text in cells for row in text if row[:1] == ["SERVE"] and len(row) == 6],
+            "held": [int(row[4]) for text in cells for row in text if row[:1] == ["SERVE"] and len(row) == 6],
+        }
+        for row in self.table("of", "cells.csv"):
+            listed = wanted[row["measure"]]
+            self.assertEqual((row["n"], float(row["least"])), ("4", min(listed)), row)
+            self.assertAlmostEqual(float(row["mean"]), sum(listed) / 4, places=5)
+        for text, told in (
+            ("class TIMES 250 FREQUENCY", "no class of TIMES goes up to 250, but to 200, 300"),
+            ("class TIMES 300 TO", "has no column TO"),
+            ("block Sevre ENTRY COUNT", "no block SEVRE, but SERVE"),
+            ("block 9 ENTRY COUNT", "no block 9"),
+            ("block Serve BLOCK TYPE", "has no column BLOCK TYPE"),
+            ("queue LINE QUEUE", "has no column QUEUE"),
+        ):
+            self.write("plan.toml", f'model = "desk.gps"\n[measures]\nof = "{text}"\n')
+            ran = self.study("bad")
+            self.assertEqual((ran.returncode, ran.stderr.count(b"\n"), told.encode() in ran.stderr), (2, 1, True), ran.stderr)
+
     def test_precision_adds_replications(self):
         self.write("plan.toml", PLAN.replace("replications = 40", 'replications = 8\nprecision = "4%"\nmost = 500')
                    .replace(', "150,40", "140,40", "130,40"', "").replace(", 190, 200", ""))
@@ -271,6 +315,9 @@ exec {os.environ['GPSSBENCH']} "$@"
             ("queue LINE", "Queues LINE", "is no measure"),
             ('model = "desk.gps"', 'model = "none.gps"', "No such file"),
             ("replications = 40", "replications = 1", "from 2 to"),
+            ("change @Serve ADVANCE {}", "replicate 2 {}", "the study chooses the replications"),
+            ("replications = 40", 'edits = ["seed 1 7"]', "the study chooses the replications"),
+            ("replications = 40", 'edits = ["drop 1"]', "the study chooses the replications"),
             ("replications = 40", "start = 3", "the model has 1 START"),
             ("replications = 40", 'design = "cube"', "one-at-a-time"),
             ("replications = 40", 'precision = "5"', "a share of the mean"),
@@ -282,6 +329,10 @@ exec {os.environ['GPSSBENCH']} "$@"
             told = ran.stderr.decode()
             self.assertEqual((ran.returncode, told.count("\n"), wanted in told), (2, 1, True), told)
             self.assertFalse(os.path.exists(self.path("bad")), new)
+        with open(self.plan, "wb") as file:
+            file.write(b'model = "\xff"\n')
+        told = self.study("bad")
+        self.assertEqual((told.returncode, told.stderr), (2, f"tools/study: {self.plan} is no TOML: byte 10 is no UTF-8\n".encode()))
         self.write("desk.gps", DESK.replace("QUEUE", "QEUE"))
         self.write("plan.toml", PLAN)
         told = self.study("bad").stderr.decode()
@@ -303,6 +354,11 @@ exec {os.environ['GPSSBENCH']} "$@"
         self.assertIn("by MSER-5 over the mean of 8 replications", ran.stdout.decode().split("\n")[-2])
         bad = tool("warmup", self.path("warm.gps"), "queue", "LINE", "CONT.")
         self.assertEqual((bad.returncode, bad.stderr.count(b"\n")), (2, 1))
+        self.write("bad.gps", DESK.replace("QUEUE", "QEUE"))
+        for model, entity, told in (("warm.gps", "LIEN", b"no queue LIEN, but LINE"), ("none.gps", "LINE", b"No such file"),
+                                    ("bad.gps", "LINE", b"is refused: line 2 L3")):
+            bad = tool("warmup", self.path(model), "queue", entity, "CONT.", "--every", "900", "--until", "90000")
+            self.assertEqual((bad.returncode, bad.stderr.count(b"\n"), told in bad.stderr), (2, 1, True), bad.stderr)
 
 
 if __name__ == "__main__":

@@ -12,6 +12,7 @@ import urllib.parse
 
 from common import ROOT, InFolder, tool
 from gpssbench.command import SYSTEM, has
+from gpssbench.workbench import Desk
 
 # What the browser is asked, run by the Python that has Selenium.
 BROWSE = """
@@ -304,6 +305,54 @@ def contrast(one, other):
     return (most + 0.05) / (least + 0.05)
 
 
+class Desks(InFolder):
+    """What a tab is told, without a browser."""
+
+    def desk(self, text, replications=2):
+        with open(self.path("desk.gps"), "wb") as file:
+            file.write(text)
+        self.told = []
+        desk = Desk(self.path("desk.gps"), 1945846388, replications, None, self.told.append)
+        self.addCleanup(desk.end)
+        return desk
+
+    def ask(self, desk, **asked):
+        self.told.clear()
+        desk.ask(asked)
+        return {it["kind"]: it for it in self.told}
+
+    def test_a_baseline_without_the_start(self):
+        desk = self.desk(b"GENERATE 10\nQUEUE Line\nADVANCE 3\nDEPART Line\nTERMINATE 1\nSTART 5\n")
+        told = self.ask(desk, do="edit", line="insert 7 START 5", seen=1)
+        self.assertEqual(told["figures"]["start"], 2)
+        row = next(it for it in told["figures"]["rows"] if it["column"] == "AVE.TIME")
+        self.assertEqual((row["now"], row["before"]), (["3.000", "0.000"], ""))
+        self.assertIn("the baseline has no report of START 2", told["figures"]["missing"][0])
+        told = self.ask(desk, do="pin")
+        self.assertEqual(told["figures"]["missing"], [])
+
+    def test_comments_have_any_letters(self):
+        desk = self.desk("* Café €\nGENERATE 10 ; größer\nQUEUE Größe\nTERMINATE 1\nSTART 5\n".encode())
+        told = self.ask(desk, do="look")
+        self.assertIn("Café €", told["state"]["fault"]["text"])
+        self.assertIn("`QUEUE Größe`", told["state"]["fault"]["sentence"])
+        text = told["state"]["fault"]["text"].replace("Größe", "Size")
+        told = self.ask(desk, do="text", text=text)
+        self.assertEqual(self.read("desk.gps"), text.encode())
+        first = told["state"]["statements"][0]
+        self.assertEqual((first["comment"], first["front"]), ("größer", ["* Café €"]))
+
+    def test_a_program_that_dies_has_no_further_replication(self):
+        desk = self.desk(b"GENERATE 10,5\nTERMINATE 1\nSTART 5\n", 3)
+        told = self.ask(desk, do="edit", line="drop 2", seen=2)
+        before = told["state"]["replications"]
+        desk.kept.bench.session.process.kill()
+        desk.kept.bench.session.process.wait()
+        told = self.ask(desk, do="edit", line="change 1 GENERATE 9,5", seen=3)
+        self.assertIn("no edit is lost", told["said"]["text"])
+        self.assertEqual(told["state"]["replications"], before)
+
+
 class Workbench(InFolder):
     def setUp(self):
         super().setUp()
@@ -383,6 +432,20 @@ class Workbench(InFolder):
             ran = tool("workbench", *words, cwd=self.folder)
             self.assertEqual((ran.returncode, ran.stderr.count(b"\n"), part in ran.stderr), (2, 1, True), ran.stderr)
 
+    def test_a_model_has_one_workbench(self):
+        self.serve()
+        with socket.socket() as free:
+            free.bind(("127.0.0.1", 0))
+            port = free.getsockname()[1]
+        before = self.read("ward.gps.edits")
+        ran = tool("workbench", "ward.gps", "--port", str(port), cwd=self.folder)
+        told = b"is open in another workbench"
+        self.assertEqual((ran.returncode, ran.stderr.count(b"\n"), told in ran.stderr), (2, 1, True), ran.stderr)
+        self.assertEqual(self.read("ward.gps.edits"), before)
+        # a port that is in use leaves no edits
+        ran = tool("workbench", "clinic.gps", "--port", str(self.port), cwd=self.folder)
+        self.assertEqual((ran.returncode, os.path.exists(self.path("clinic.gps.edits"))), (2, False), ran.stderr)
+
     def test_in_a_browser(self):
         if not (shutil.which("chromium") and shutil.which("chromedriver") and has("selenium", SYSTEM)):
             self.skipTest("no chromium, chromedriver or selenium: the workbench in a browser")
@@ -416,8 +479,20 @@ class Workbench(InFolder):
     def test_the_edits_of_a_script_come_first(self):
         self.serve(self.write("what.script", "# eleven\nchange @Beds STORAGE 11\nall 1\n"), "--replications", "1")
         self.assertEqual(self.read("ward.gps.edits"), b"change 1 BEDS STORAGE 11\n")
+        # where there are edits, those of a script are left out, and one is told
+        shutil.copy(self.path("ward.gps"), self.path("other.gps"))
+        shutil.copy(self.path("ward.gps.edits"), self.path("other.gps.edits"))
+        with socket.socket() as free:
+            free.bind(("127.0.0.1", 0))
+            port = free.getsockname()[1]
+        command = [os.path.join(ROOT, "tools", "workbench"), "other.gps", "what.script", "--port", str(port)]
+        other = subprocess.Popen(command, stdout=subprocess.PIPE, stderr=subprocess.PIPE, text=True, cwd=self.folder)
+        self.assertIn("other.gps.edits were made again: 1\n", other.stdout.readline())
+        other.stdout.readline()
+        other.send_signal(signal.SIGINT)
+        self.assertIn("what.script is left out", other.communicate(timeout=10)[1])
         bad = self.write("bad.script", "change @Nowhere STORAGE 11\n")
-        ran = tool("workbench", self.path("clinic.gps"), bad, "--port", str(self.port))
+        ran = tool("workbench", self.path("clinic.gps"), bad, "--port", str(port))
         self.assertEqual((ran.returncode, ran.stderr.count(b"\n"), b"line 1 of the script" in ran.stderr), (2, 1, True), ran.stderr)
 
 
