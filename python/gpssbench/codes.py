@@ -152,10 +152,13 @@ def bad_operand(code: str, text: str) -> str | None:
         return "values go from -1,000,000,000 to 1,000,000,000."
     if re.search(r"[*/^]", word):
         return r"in an expression `#` multiplies, `\` divides whole and `@` is the remainder; it stands in parentheses."
+    if verb == "LINK" and place == 2:
+        return "the word is `FIFO` or `LIFO`."
     if bare in statements.VERBS:
         return f"{bare} is a verb and so no name; call it {bare}_1, for instance, here and where it is defined."
     if re.fullmatch(rf"({'|'.join(statements.CLASSES)})", bare):
-        return f"{bare} is a class of attributes and so no name; call it {bare}_1, for instance, or write {bare}$Name."
+        other = "" if bare in [*statements.OF_THE_MOMENT, "RN"] else f", or write {bare}$Name"
+        return f"{bare} is a class of attributes and so no name; call it {bare}_1, for instance{other}."
     if verb in ("START", "STORAGE") and re.fullmatch(r"-[0-9]+|0+", word):
         return "a count from 1 to 1,000,000,000 stands here."
     if re.fullmatch(r"-[A-Z].*", word):

@@ -208,7 +208,7 @@ def session_of(words: list[str]) -> tuple[Model, list[str], list[str]]:
             return Model.read("-", given), lines_of(rest[0]), rest[1:]
         text, _, questions = (given.decode("latin-1") + "\n").partition("\nend\n")
         return Model.read("-", text.encode("latin-1")), questions.split("\n"), rest
-    return Model.read(path), lines_of(rest[0]), rest[1:]
+    return Model.of_file(path), lines_of(rest[0]), rest[1:]
 
 
 def main(words: list[str]) -> int:

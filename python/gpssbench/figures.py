@@ -35,7 +35,9 @@ def read_table(path: str) -> tuple[list[str], list[dict[str, str]]]:
     try:
         with open(path, newline="", encoding="utf-8") as file:
             reader = csv.DictReader(file)
-            return list(reader.fieldnames or []), list(reader)
+            if not reader.fieldnames:
+                raise Problem(f"{path} is empty")
+            return list(reader.fieldnames), list(reader)
     except (csv.Error, UnicodeDecodeError) as why:
         raise Problem(f"{path} is no CSV: {why}") from None
 
@@ -75,6 +77,12 @@ class Table:
             if title not in [*POINT, *OF_RUN]:
                 self.wants(title)
         points = [it for it in self.points.values() if all(is_met(it.cell(title), value) for title, value in of_run)]
+        if not points and of_run:
+            cells = lambda title: list(dict.fromkeys(point.cell(title) for point in self.points.values()))
+            none = (title for title, value in of_run if not any(is_met(cell, value) for cell in cells(title)))
+            title = next(none, of_run[0][0])
+            there = cells(title)
+            raise Problem(f"no such run: {title} is one of {', '.join(there[:12])}{', ..' if len(there) > 12 else ''}")
         keys = {point.key() for point in points}
         rows = [row for row in self.rows if point_of(row, self.path).key() in keys]
         of_row = [it for it in wanted if it not in of_run]

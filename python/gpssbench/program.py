@@ -38,6 +38,12 @@ class Model:
         except OSError:
             return cls(path, b"")  # the program says what is wrong with it
 
+    @classmethod
+    def of_file(cls, path: str) -> "Model":
+        """The model of a file that must be there."""
+        with open(path, "rb") as file:
+            return cls(path, file.read())
+
     def words(self) -> list[str]:
         return [] if self.path == "-" else [self.path]
 

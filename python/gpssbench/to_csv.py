@@ -38,6 +38,9 @@ def read_session(reader: tables.Reader, written: bytes, name: str) -> list[table
 
 def by_files(words: Words) -> tuple[list[tables.Run], int]:
     runs, status = [], 0
+    late = next((word for word in words.rest if word.startswith("--")), None)
+    if late:
+        raise Problem(f"{late} stands in front of the files; --help shows how")
     for number, path in enumerate(words.rest or ["-"], 1):
         if path == "-":
             written = sys.stdin.buffer.read()
@@ -56,7 +59,7 @@ def by_files(words: Words) -> tuple[list[tables.Run], int]:
 def by_running(words: list[str]) -> tuple[list[tables.Run], int]:
     if len(words) < 2:
         raise Problem("--run wants a MODEL and a SCRIPT")
-    model, asked = Model.read(words[0]), words[2:]
+    model, asked = Model.of_file(words[0]), words[2:]
     lines = script.resolve(script.read(lines_of(words[1])), model, asked)
     session = ran(model, asked, script.plain(lines))
     if session.stderr:
