@@ -6,7 +6,7 @@ import subprocess
 import unittest
 from html.parser import HTMLParser
 
-from common import ROOT, InFolder, tool
+from common import ROOT, InFolder, no_browser, tool
 from gpssbench.command import SYSTEM, has
 
 PLAN = """model = "clinic.gps"
@@ -122,8 +122,8 @@ class Pages(InFolder):
         self.assertEqual(again.stdout.decode(), self.text, "the same page each time")
         none = tool("page", self.folder)
         self.assertEqual((none.returncode, none.stderr.count(b"\n")), (2, 1), none.stderr)
-        if not (shutil.which("chromium") and shutil.which("chromedriver") and has("selenium", SYSTEM)):
-            self.skipTest("no chromium, chromedriver or selenium: the page in a browser")
+        if why := no_browser():
+            self.skipTest(f"{why}: the page in a browser")
         ran = subprocess.run([SYSTEM, "-c", BROWSE, self.page, self.folder], capture_output=True, timeout=110)
         self.assertEqual((ran.returncode, ran.stdout), (0, b"seen\n"), ran.stderr.decode())
         if pictures := os.environ.get("GPSSBENCH_PICTURES"):

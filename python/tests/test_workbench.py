@@ -10,7 +10,7 @@ import time
 import unittest
 import urllib.parse
 
-from common import ROOT, InFolder, tool
+from common import ROOT, InFolder, no_browser, tool
 from gpssbench.command import SYSTEM, has
 from gpssbench.workbench import Desk
 
@@ -447,8 +447,8 @@ class Workbench(InFolder):
         self.assertEqual((ran.returncode, os.path.exists(self.path("clinic.gps.edits"))), (2, False), ran.stderr)
 
     def test_in_a_browser(self):
-        if not (shutil.which("chromium") and shutil.which("chromedriver") and has("selenium", SYSTEM)):
-            self.skipTest("no chromium, chromedriver or selenium: the workbench in a browser")
+        if why := no_browser():
+            self.skipTest(f"{why}: the workbench in a browser")
         server, address = self.serve("--every", "50")
         words = [SYSTEM, "-c", BROWSE, address, self.folder, str(server.pid)]
         ran = subprocess.run(words, capture_output=True, timeout=110)
