@@ -134,6 +134,13 @@ def of_distribution(name: str, read: Words) -> tuple[Pairs, float, float]:
     return pairs, mean, deviation
 
 
+def time_of(path: str, text: str) -> float:
+    try:
+        return float(text)
+    except ValueError:
+        raise Problem(f"{path}: {text.strip()[:40]!r} is no number") from None
+
+
 def of_data(path: str, column: str | None) -> tuple[Pairs, float, float]:
     """The points of measured times: the greatest and the least, and shares of them between, at most 100."""
     with open(path, newline="", encoding="utf-8", errors="replace") as file:
@@ -144,10 +151,7 @@ def of_data(path: str, column: str | None) -> tuple[Pairs, float, float]:
         texts = [row[rows[0].index(column)] for row in rows[1:] if len(row) > rows[0].index(column)]
     else:
         texts = [row[0] for row in rows if row]
-    try:
-        values = sorted(float(text) for text in texts if text.strip())
-    except ValueError as why:
-        raise Problem(f"{path}: {why}") from None
+    values = sorted(time_of(path, text) for text in texts if text.strip())
     if len(values) < 2 or not all(0 <= it <= 1_000_000_000 for it in values):
         raise Problem(f"{path}: two numbers or more are wanted, from 0 to 1,000,000,000")
     steps = min(100, len(values) - 1)

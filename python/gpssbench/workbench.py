@@ -456,6 +456,10 @@ def application(desk_of, token: str, hosts: set[str]):
         def write_error(self, status, **_):
             self.finish(f"{status}\n")
 
+    class NoPage(Page):
+        def prepare(self):
+            raise web.HTTPError(404)
+
     class Tab(websocket.WebSocketHandler):
         closing = False
 
@@ -497,7 +501,8 @@ def application(desk_of, token: str, hosts: set[str]):
                 of = len(desk.kept.bench.replications) if desk.kept else 0
                 tell({"kind": "busy", "done": desk.done, "of": of, "seconds": round(seconds, 1), "keeps": desk.keeps})
 
-    return web.Application([(r"/([^/]+)/ws", Tab), (r"/([^/]+)/([a-z.]*)", Page)]), desk, pulse
+    pages = [(r"/([^/]+)/ws", Tab), (r"/([^/]+)/([a-z.]*)", Page)]
+    return web.Application(pages, default_handler_class=NoPage), desk, pulse
 
 
 def main(words: list[str]) -> int:

@@ -105,6 +105,8 @@ class Distributions(InFolder):
         for figure in ("nan", "inf", "1e400", "5e9", "-1"):
             bad = tool("draw", "--data", self.write("bad.csv", f"5\n{figure}\n"))
             self.assertEqual((bad.returncode, bad.stderr.count(b"\n")), (2, 1), bad.stderr)
+        bad = tool("draw", "--data", self.write("bad.csv", "no time" * 1000))
+        self.assertEqual((bad.returncode, len(bad.stderr) < 200), (2, True), bad.stderr)
 
     def test_shares_of_the_gamma_distribution(self):
         # 1 - e^-x (1 + x) for the shape 2, and 1 - e^-x for 1

@@ -399,7 +399,8 @@ class Workbench(InFolder):
         self.assertEqual(answer.status, 200)
         policy = answer.headers["Content-Security-Policy"]
         self.assertTrue("default-src 'none'" in policy and "unsafe" not in policy and "frame-ancestors 'none'" in policy)
-        self.assertEqual(self.status("/").status, 404)
+        nowhere = self.status("/")
+        self.assertEqual((nowhere.status, nowhere.headers["Content-Security-Policy"]), (404, policy))
         self.assertEqual(self.status("/wrong/").status, 403)
         self.assertEqual(self.status(path + "app.js").status, 200)
         self.assertEqual(self.status(path + "..").status, 404)
