@@ -312,7 +312,7 @@ def script_fault(answer: str, line: str) -> list[str]:
             cure = f"words of a script are in small letters: `{near[0]}`, and no blank stands in front."
         elif near:
             cure = f"no line begins with `{word}`; `{near[0]}`?"
-    return said(f"? n {kind}", cure)
+    return [told.replace("line n of the script", f"`{shown(line)}`", 1) for told in said(f"? n {kind}", cure)]
 
 
 def edit_fault(code: str, line: str, texts: list[str]) -> list[str]:

@@ -34,6 +34,11 @@ class OpenModel(InFolder):
         self.addCleanup(bench.close)
         return bench
 
+    def test_a_line_that_is_no_edit_is_named(self):
+        with Bench(self.write("desk.gps", DESK), seed=SEED) as bench, self.assertRaises(Refused) as told:
+            bench.edit("insert x")
+        self.assertIn("`insert x` has other arguments than its word takes", str(told.exception))
+
     def test_figures_are_those_of_the_readme(self):
         with open(os.path.join(ROOT, "README.md")) as file:
             self.assertIn("CLERK           201    0.893     160.159", file.read())
