@@ -150,7 +150,8 @@ class Installed(InFolder):
         missing = [it for it in ("pip", "setuptools", "wheel") if not has(it, SYSTEM)]
         if missing:
             self.skipTest(f"no package {', '.join(missing)}: an installation by pip")
-        shutil.copytree(os.path.join(ROOT, "python"), self.path("python"))
+        for folder in ("python", "bench", "docs"):
+            shutil.copytree(os.path.join(ROOT, folder), self.path(folder))
         words = ["--no-index", "--no-build-isolation", "--no-deps", "--disable-pip-version-check", "--target", self.path("there")]
         ran = subprocess.run([SYSTEM, "-m", "pip", "install", *words, self.path("python")], capture_output=True, timeout=100)
         self.assertEqual(ran.returncode, 0, ran.stderr.decode()[-2000:])
@@ -159,7 +160,13 @@ class Installed(InFolder):
             for place, _, files in os.walk(self.path(os.path.join(*folder)))
             for name in files if not name.endswith(".pyc")
         }
-        self.assertEqual(names("there", "gpssbench"), names("python", "gpssbench"))
+        shared = {"/statements.py", "/codes.md", "/from-gpss-world.md"}
+        self.assertEqual(names("there", "gpssbench"), names("python", "gpssbench") | shared)
+        for folder in ("bench", "docs"):
+            shutil.rmtree(self.path(folder))
+        told = subprocess.run([SYSTEM, "-c", "from gpssbench import codes; print(codes.__file__, len(codes.MEANINGS))"],
+                              capture_output=True, env={**os.environ, "PYTHONPATH": self.path("there")}, timeout=60)
+        self.assertTrue(told.stdout.decode().startswith(self.path("there")), told.stderr.decode())
 
 
 if __name__ == "__main__":
