@@ -1,13 +1,6 @@
 """What-if studies with gpssbench, from Python: sessions that stay open, reports as tables, statistics over replications.
 
-The tools of the folder tools/ are commands over these modules. The core needs nothing but Python 3.11. In a clone the
-rules of statements and the pages of codes stand in bench/ and docs/; setup.py copies them into a package that is
-installed."""
-import os
-
-CLONE = os.path.dirname(os.path.dirname(os.path.dirname(os.path.realpath(__file__))))
-__path__ += [os.path.join(CLONE, "bench"), os.path.join(CLONE, "docs")]
-
+The tools of the folder tools/ are commands over these modules. The core needs nothing but Python 3.11."""
 from .bench import Bench, Measure, NoMemory, NoReplication, NoReport, NoStart, Refused, Report, Reports, TooLong
 from .command import Problem
 from .program import Ended

@@ -1,9 +1,8 @@
 """What each code means and what to do about it, by docs/codes.md, and what a single line of a model most likely means."""
 import difflib
-import os
+import importlib.resources
 import re
 
-from . import __path__ as folders
 from . import statements
 from .script import EDITS, QUERIES
 
@@ -13,9 +12,8 @@ MOST = 1_000_000_000
 
 def table_rows(page: str) -> list[list[str]]:
     """The cells of the tables of a page, row by row."""
-    path = next(path for folder in folders if os.path.exists(path := os.path.join(folder, page)))
-    with open(path, encoding="utf-8") as file:
-        lines = [line.strip() for line in file]
+    text = importlib.resources.files(__package__).joinpath(page).read_text(encoding="utf-8")
+    lines = [line.strip() for line in text.split("\n")]
     rows = [[cell.strip().replace("\\|", "|") for cell in re.split(r"(?<!\\)\|", line)[1:-1]] for line in lines if
             line.startswith("|")]
     return [row for row in rows if len(row) >= 2 and not set(row[0]) <= set("-: ")]

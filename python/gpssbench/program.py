@@ -4,16 +4,17 @@ import shutil
 import subprocess
 from dataclasses import dataclass
 
-from . import CLONE
 from .answers import BrokenOff, next_answer
 from .command import Problem
+
+ROOT = os.path.dirname(os.path.dirname(os.path.dirname(os.path.realpath(__file__))))
 
 
 def program() -> str:
     """Where the program is: $GPSSBENCH, the one that `bench/unproved --keep gpssbench` or the gate built in the clone,
     or the one in a folder of PATH."""
-    built = os.path.join(CLONE, "crates", "gw_main", "out", "gw_main")
-    for path in (os.environ.get("GPSSBENCH"), os.path.join(CLONE, "gpssbench"), built, shutil.which("gpssbench")):
+    built = os.path.join(ROOT, "crates", "gw_main", "out", "gw_main")
+    for path in (os.environ.get("GPSSBENCH"), os.path.join(ROOT, "gpssbench"), built, shutil.which("gpssbench")):
         if path and os.path.isfile(path):
             return os.path.abspath(path)
     raise Problem("no program: `bench/unproved --keep gpssbench` in the repository's root builds one")
