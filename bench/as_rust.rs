@@ -623,6 +623,14 @@ mod rt {
                     values: Vec::new(alloc),
                 }
             }
+            pub fn with_capacity(alloc: Global, count: usize) -> Result<IndexMap<K, V>, AllocError> {
+                let mut map = IndexMap::new(alloc);
+                map.reserve(count)?;
+                Ok(map)
+            }
+            pub fn allocator(&self) -> &Global {
+                &Global
+            }
             #[inline]
             pub fn len(&self) -> usize {
                 self.keys.len()
@@ -740,7 +748,7 @@ mod rt {
                 let of_last = self.slot(last);
                 self.slots[of_last].place = index as u32 + 1;
                 self.slots[at] = FREE;
-                // Those behind it that would not be found now move up.
+                // Those after it that would not be found now move up.
                 let mask = self.slots.len() - 1;
                 let mut next = (at + 1) & mask;
                 while self.slots[next].place != 0 {

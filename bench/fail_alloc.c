@@ -1,15 +1,19 @@
 /* An allocator whose Nth allocation fails, for LD_PRELOAD: FAIL_ALLOC is N, from 1, and 0 fails none. At its end the
-   program writes how many allocations it asked for to the file that FAIL_ALLOC_COUNT names. */
+   program writes how many allocations it asked for to the file that FAIL_ALLOC_COUNT names: a program that may start
+   threads ends by `_exit`, which runs no destructor. */
 #include <errno.h>
 #include <stdio.h>
 #include <stdlib.h>
+#include <sys/syscall.h>
+#include <unistd.h>
 
 void *__libc_malloc(size_t size);
 void *__libc_calloc(size_t count, size_t size);
 void *__libc_realloc(void *old, size_t size);
 void *__libc_memalign(size_t alignment, size_t size);
 
-static unsigned long asked, failing;
+static _Atomic unsigned long asked;
+static unsigned long failing;
 
 __attribute__((constructor)) static void begin(void) {
     const char *number = getenv("FAIL_ALLOC");
@@ -28,7 +32,16 @@ __attribute__((destructor)) static void end(void) {
     }
 }
 
-static int fails(void) { return ++asked == failing; }
+void _exit(int status) {
+    end();
+    for (;;) syscall(SYS_exit_group, status);
+}
+
+static int fails(void) {
+    if (++asked != failing) return 0;
+    errno = ENOMEM;
+    return 1;
+}
 
 void *malloc(size_t size) { return fails() ? NULL : __libc_malloc(size); }
 

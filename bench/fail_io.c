@@ -1,7 +1,7 @@
 /* Reads and writes that fail, for LD_PRELOAD. A read of the file FAIL_READ_FILE (a number, 0 if absent) takes at most
    FAIL_READ_STEP bytes and fails once FAIL_READ reads were made; a write to standard output takes at most
    FAIL_WRITE_STEP bytes and fails once FAIL_WRITE bytes are written. With FAIL_ONCE only the first of them fails, and
-   the next goes on. With FAIL_END a read behind the end of the file fails. What is not given does not fail. */
+   the next goes on. With FAIL_END a read after the end of the file fails. What is not given does not fail. */
 #define _GNU_SOURCE
 #include <errno.h>
 #include <stdlib.h>

@@ -1,7 +1,7 @@
 """An independent reading of the language: sessions are answered by a plain interpreter that knows nothing of the
 program.
 
-It takes all sessions but those that end out of memory or behind too many reads, and reads statements by statements.py.
+It takes all sessions but those that end out of memory or after too many reads, and reads statements by statements.py.
 A report is a run from clock zero; what an edit leaves of a recorded run goes by the items that each step read."""
 import re, sys
 from math import isqrt
@@ -241,7 +241,7 @@ class Run:
         return value
 
     def function(self, block, name):
-        """What a FUNCTION comes to, in millionths; VARIABLEs and FUNCTIONs nest 32 deep together."""
+        """The value of a FUNCTION, in millionths; VARIABLEs and FUNCTIONs nest 32 deep together."""
         if self.depth == 32:
             raise End("X10")
         self.items.append(("function", name))
@@ -354,7 +354,7 @@ class Run:
             self.ends.append(self.steps)
 
     def wake(self):
-        """Whoever waits for anything that the step wrote lines up on the current chain, in order of waiting."""
+        """All that wait for something that the step wrote line up on the current chain, in order of waiting."""
         woken = [(x, read) for x, read in self.retrying if read & self.written]
         self.retrying = [(x, read) for x, read in self.retrying if not read & self.written]
         for x, _ in woken:
@@ -831,7 +831,7 @@ HOLDS = {"E": eq, "NE": ne, "G": gt, "GE": ge, "L": lt, "LE": le}
 
 
 def looked_up(function, argument):
-    """What a FUNCTION comes to at an argument, both in millionths: along the lines between its points, or in steps."""
+    """The value of a FUNCTION at an argument, both in millionths: along the lines between its points, or in steps."""
     points = function.points
     above = next((i for i, (x, _) in enumerate(points) if x >= argument), None)
     if above is None:
@@ -862,7 +862,7 @@ def within(value):
 
 
 def line_up(chain, x):
-    """Behind its equals, in front of the first of lower priority; the last of the chain has the lowest."""
+    """After its equals, before the first of lower priority; the last of the chain has the lowest."""
     place = len(chain)
     while place and chain[place - 1].priority < x.priority:
         place -= 1
@@ -1103,8 +1103,8 @@ class Session:
                 items = {(ITEMS[old.verb], old.label)} if old.listed != new.listed else set()
         else:
             items = self.touches(statements, place, *[s for s in (old, new) if s])
-        behind = statements[: place - 1] + ([new] if new else []) + statements[place - 1 + goes :]
-        return self.edit(lambda r, item: touched_by(items, item), self.with_statements(behind))
+        after = statements[: place - 1] + ([new] if new else []) + statements[place - 1 + goes :]
+        return self.edit(lambda r, item: touched_by(items, item), self.with_statements(after))
 
     def line(self, number, text):
         """The answer to a line of the script."""
@@ -1118,7 +1118,7 @@ class Session:
         read = re.fullmatch(LINES[word], text[len(word) :])
         if read is None or word == "capacity" and not is_name(rest[0].upper()):
             return f"? {number} arguments\n"
-        if self.accepted == 4096 and word not in ("report", "peek", "all", "list"):
+        if self.accepted == 4096 and word not in ("report", "peek", "all", "work", "list"):
             return "refused E8\n"
         arguments = [int(part) if re.fullmatch("[0-9]{1,18}", part) else part for part in read.groups()]
         if word in ("insert", "change"):
@@ -1133,6 +1133,19 @@ class Session:
 
     def line_all(self, k):
         return f"all {len(self.version.seeds)}\n" + "".join(self.answer(r, k, False) for r in self.version.seeds)
+
+    def line_work(self, r, steps):
+        """So many steps more of a run, as far as the step limit and its end allow."""
+        if r not in self.version.seeds:
+            return "noreplication\n"
+        run = self.replay(r, self.recorded[r])
+        try:
+            while run.steps < min(self.recorded[r] + steps, self.version.limit):
+                run.step()
+        except End:
+            pass
+        self.recorded[r] = run.steps
+        return f"work {run.steps}\n"
 
     def line_list(self):
         lines = [f"{i} {s.text()}\n" for i, s in enumerate(self.version.statements, 1)]
@@ -1177,11 +1190,11 @@ class Session:
         return self.edit(touched, Version(v.statements, v.horizon, seeds, v.limit))
 
 
-# What stands behind the word of a line of the script.
+# What follows the word of a line of the script.
 NUMBER = "[ \t]([0-9]{1,18})"
 LINES = {"report": NUMBER * 2, "peek": NUMBER * 2, "all": NUMBER, "list": "", "delete": NUMBER, "horizon": NUMBER}
 LINES |= {"insert": NUMBER + "[ \t](.*)", "change": NUMBER + "[ \t](.*)", "capacity": "[ \t]([^ \t]+)" + NUMBER}
-LINES |= {"seed": NUMBER * 2, "replicate": NUMBER * 2, "drop": NUMBER, "quit": ""}
+LINES |= {"seed": NUMBER * 2, "replicate": NUMBER * 2, "drop": NUMBER, "work": NUMBER * 2, "quit": ""}
 
 
 # Which item a definition answers.

@@ -1,6 +1,6 @@
 //! The report of a model's last START by plain steps from zero, which keep no run: what recording is measured against.
 //!
-//! The model stands on standard input up to the line `end`; what stands behind it is left alone. The report is the
+//! Standard input has the model, up to the line `end`; what follows that line is left alone. The report is the
 //! one that the workbench gives of that START with its usual options; none where the run does not complete it.
 //!
 //! It is Rattle, as the crates are. A `.rt` file stands in none but a crate that is proved, so this one is called

@@ -8,7 +8,7 @@ BLOCKS = (
 DEFINITIONS = "STORAGE EQU VARIABLE FUNCTION TABLE".split()
 COMMANDS = "START RESET CLEAR RMULT".split()
 VERBS = BLOCKS + DEFINITIONS + COMMANDS
-# The operands of a verb: a value, an entity, one with a sign behind it or none, a storage, a table, a label, a
+# The operands of a verb: a value, an entity, one with a sign after it or none, a storage, a table, a label, a
 # fraction, an expression, a number, a count, a number of classes, a seed, a value or ALL (`some`), FIFO or LIFO
 # (`order`), or a key word; `!` where one must be there.
 FORMS = {
@@ -108,7 +108,7 @@ class Statement:
         return self.trees[place] if place < len(self.trees) else None
 
     def sign(self):
-        """The sign behind the first operand, where there is one."""
+        """The sign after the first operand, where there is one."""
         return self.operand(0)[-1] if self.operand(0)[-1] in "+-" else ""
 
     def number(self, place):
@@ -252,7 +252,7 @@ def ascii_only(code):
 
 
 def operand_list(text):
-    """The operands up to the first blank outside parentheses, and where they end; blanks within and behind a comma are
+    """The operands up to the first blank outside parentheses, and where they end; blanks within and after a comma are
     dropped."""
     listed, depth = "", 0
     for at, byte in enumerate(text):

@@ -335,13 +335,16 @@ class Bench:
 
     def __init__(
         self, model: str, seed: int | None = None, horizon: int | None = None, every: int | None = None,
-        limit: int | None = None, text: str | None = None,
+        limit: int | None = None, text: str | None = None, workers: int | None = None,
     ):
-        """Opens the model of a file; with `text` that of a text, and `model` is its name alone."""
+        """Opens the model of a file; with `text` that of a text, and `model` is its name alone. With `workers` so many
+        threads simulate all replications meanwhile."""
         self.model = Model(model, b"") if text is None else Model("-", text.encode("latin-1").rstrip(b"\n") + b"\n")
         self.words = [
             word
-            for name, value in (("--seed", seed), ("--horizon", horizon), ("--every", every), ("--limit", limit))
+            for name, value in (
+                ("--seed", seed), ("--horizon", horizon), ("--every", every), ("--limit", limit), ("--workers", workers),
+            )
             if value is not None
             for word in (name, str(value))
         ]
@@ -352,7 +355,7 @@ class Bench:
     # ---- a line and its answer
 
     def ask(self, line: str) -> tuple[str, list]:
-        """The answer to a script's line, as the program has it. A model that is refused is told at the first one."""
+        """The answer to a script's line, as the program has it. A refused model is reported at the first one."""
         if "\n" in line or any(ord(it) > 255 for it in line):
             raise Problem("a line of a script is one line of plain letters, digits and signs")
         try:

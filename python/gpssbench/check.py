@@ -1,12 +1,12 @@
-"""Says what of a model is lawful and most likely not meant.
+"""Finds what is lawful in a model and most likely not meant.
 
     tools/check MODEL [WORDS ..]
 
 MODEL is a model's file, or `-` for standard input. It is read by the program, and nothing is simulated. Each finding is a
 line `FILE:LINE: what stands there: why it is odd, and what to do`: a facility that is seized and never released, a queue
 that is entered and never left or the other way, a switch or a savevalue that is asked and never set, a definition that
-nobody uses, no START, no TERMINATE that counts, a half range above its mean, a number or a label behind the operands that
-reads as comment, a facility with the name of a storage, a wait that nothing ends, a block that nobody comes to.
+nothing uses, no START, no TERMINATE that counts, a half range above its mean, a number or a label after the operands that
+is read as comment, a facility with the name of a storage, a wait that nothing ends, a block that no transaction reaches.
 
 A model that is refused is explained: the line, the verb that was likely meant, what to write in place of a statement of
 GPSS World or GPSS/H that is left out.
@@ -23,7 +23,7 @@ from .command import Problem
 from .program import Model, ran
 from .script import name_of
 
-# What wakes nobody who waits at a TEST or a GATE.
+# What wakes no transaction that waits at a TEST or a GATE.
 NEVER_WAKES = ["C1", "AC1", "M1", "TG1", "RN", "P", "PR", "XN1"]
 
 
@@ -87,11 +87,11 @@ class Checker:
 
     def pairs(self) -> Iterator[Finding]:
         yield from self.one_way(
-            "SEIZE", "RELEASE", "no RELEASE of {}: the first who takes it keeps it, and all others wait for ever",
-            "no SEIZE of {}: who comes here stops the run with X2",
+            "SEIZE", "RELEASE", "no RELEASE of {}: the first that takes it keeps it, and all others wait for ever",
+            "no SEIZE of {}: what comes here stops the run with X2",
         )
         yield from self.one_way(
-            "LINK", "UNLINK", "no UNLINK of {}: who is linked stays for ever", "no LINK of {}: there is nobody to unlink"
+            "LINK", "UNLINK", "no UNLINK of {}: what is linked stays for ever", "no LINK of {}: there is nothing to unlink"
         )
         entered, left = self.named_by("ENTER"), self.named_by("LEAVE")
         for name in entered:
@@ -99,7 +99,7 @@ class Checker:
                 yield Finding(entered[name][0], f"no LEAVE of {name}: its units are never given back")
         for name in left:
             if name not in entered:
-                yield Finding(left[name][0], f"no ENTER of {name}: who comes here stops the run with X3")
+                yield Finding(left[name][0], f"no ENTER of {name}: what comes here stops the run with X3")
         queued, departed = self.named_by("QUEUE"), self.named_by("DEPART")
         if None not in departed:
             for name, places in queued.items():
@@ -108,14 +108,14 @@ class Checker:
         if None not in queued:
             for name, places in departed.items():
                 if name is not None and name not in queued:
-                    yield Finding(places[0], f"no QUEUE of {name}: who comes here stops the run with X4")
+                    yield Finding(places[0], f"no QUEUE of {name}: what comes here stops the run with X4")
 
     def after(self, place: int) -> Iterator:
         """The blocks after a place, in the order of the text."""
         return (it for it in self.all[place:] if it.verb in statements.BLOCKS)
 
     def is_followed_by_more(self, place: int) -> bool:
-        """Whether a transaction that took units goes on to others things than its end."""
+        """Whether a transaction that took units goes on to other things than its end."""
         for it in self.after(place):
             if it.verb in ("ADVANCE", "SEIZE"):
                 return True
@@ -124,7 +124,7 @@ class Checker:
         return False
 
     def waits_after(self, place: int) -> bool:
-        """Whether a transaction may be held up after a QUEUE: then it is a line, and not a counter of those who pass."""
+        """Whether a transaction may be held up after a QUEUE: then it is a line, and not a counter of those that pass."""
         for it in self.after(place):
             waits = it.verb in ("SEIZE", "ENTER", "LINK") or it.verb in ("TEST", "GATE") and self.is_wait(it)
             if waits:
@@ -152,14 +152,14 @@ class Checker:
                 if name not in written:
                     near = codes.difflib.get_close_matches(str(name), [str(it) for it in written], 1, 0.6)
                     meant = f"; {near[0]}?" if near else ""
-                    end = "who comes here stops the run with X5" if cls == "P" else "it stays as it was at first"
+                    end = "what comes here stops the run with X5" if cls == "P" else "it stays as it was at first"
                     yield Finding(places[0], f"the {what} {name} is asked and {never}: {end}{meant}")
 
     def unused(self) -> Iterator[Finding]:
         used = {name for it in self.all for name in it.names()[1 if it.label else 0 :]}
         for place, it in enumerate(self.all, 1):
             if it.verb in statements.DEFINITIONS and it.label not in used:
-                yield Finding(place, f"nobody uses {it.label}")
+                yield Finding(place, f"nothing uses {it.label}")
 
     # ---- ends, ranges, storages, waits
 
@@ -169,7 +169,7 @@ class Checker:
         if not starts:
             yield Finding(None, "there is no START, so there is no report: add `START 100` at the end")
         elif not any(it.verb == "GENERATE" for it in self.all):
-            yield Finding(starts[0], "there is no GENERATE, so nobody ever comes")
+            yield Finding(starts[0], "there is no GENERATE, so nothing ever comes")
         elif not counts:
             why = "no TERMINATE counts it down: write `TERMINATE 1` where a job is done, or the run is too long"
             yield Finding(starts[0], why)
@@ -207,20 +207,20 @@ class Checker:
             if it.verb == "TEST" and self.is_wait(it):
                 classes = [leaf[1] for leaf in it.leaves("attribute")]
                 if all(cls in NEVER_WAKES for cls in classes):
-                    why = "where it does not hold at once, one waits for ever, since the clock, a parameter and a draw wake"
-                    yield Finding(place, f"{why} nobody: give it a label, or hold by an ADVANCE")
+                    why = "where it does not hold at once, a transaction waits for ever: the clock, a parameter and a draw wake"
+                    yield Finding(place, f"{why} nothing. Give it a label, or hold it by an ADVANCE")
 
     # ---- ways
 
     def ways(self) -> Iterator[Finding]:
         blocks = [(place, it) for place, it in enumerate(self.all, 1) if it.verb in statements.BLOCKS]
         named = {leaf[-1] for it in self.all for leaf in it.leaves("label")}
-        for (place, it), (behind, following) in zip(blocks, blocks[1:]):
+        for (place, it), (next_place, following) in zip(blocks, blocks[1:]):
             goes_on = self.goes_on(it)
             if goes_on and following.verb == "GENERATE":
-                yield Finding(place, "who leaves this block comes to a GENERATE and stops the run with X8: is a TERMINATE missing?")
+                yield Finding(place, "what leaves this block comes to a GENERATE and stops the run with X8: is a TERMINATE missing?")
             if not goes_on and following.verb != "GENERATE" and following.label not in named:
-                yield Finding(behind, "nobody comes here: no block goes on to it, and no label leads to it")
+                yield Finding(next_place, "nothing comes here: no block goes on to it, and no label leads to it")
         if blocks and self.goes_on(blocks[-1][1]):
             yield Finding(blocks[-1][0], "no block follows this one (X8): is a TERMINATE missing?")
 

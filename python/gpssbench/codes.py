@@ -6,7 +6,7 @@ import re
 from . import statements
 from .script import EDITS, QUERIES
 
-SCRIPT_WORDS = [*QUERIES, "list", *EDITS, "quit"]
+SCRIPT_WORDS = [*QUERIES, "work", "list", *EDITS, "quit"]
 MOST = 1_000_000_000
 
 
@@ -134,7 +134,9 @@ def bad_operand(code: str, text: str) -> str | None:
     attribute = re.match(r"\(?([A-Z]+)\$", word)
     bare = word.rstrip("+-")
     is_first = label is None and place == 1 and not operator and word != verb
-    if is_first and word.split(",")[0] in statements.VERBS:
+    # a verb has operands after it, and a name has none
+    has_operands = re.search(rf"(?i)\b{re.escape(word)}\s+[^;\s]", text)
+    if is_first and has_operands and word.split(",")[0] in statements.VERBS:
         return f"is the label a verb's name? {verb} is read as the verb, and {word} as its operand: choose another label."
     if verb == "TRANSFER" and place == 1:
         if f"TRANSFER {word}" in TRANSFERS:
@@ -276,8 +278,8 @@ def model_fault(code: str, texts: list[str]) -> list[str]:
 
 
 def joined(lines: list[str]) -> list[tuple[int, str]]:
-    """The statements of a model's lines, each with its line's number and as one text: the pairs of a FUNCTION stand
-    behind its first line."""
+    """The statements of a model's lines, each with its line's number and as one text: the pairs of a FUNCTION
+    follow its first line."""
     texts, wanted = [], 0
     for number, line in enumerate(lines, 1):
         code = statements.code_of(line).strip()

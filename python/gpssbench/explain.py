@@ -2,11 +2,10 @@
 
     tools/explain MODEL SCRIPT [WORDS ..]
 
-What the program writes stands here as it writes it, byte for byte and in the same order. In front of each answer stands
-the script line that it answers, after `> `; what this tool says stands after `# `: what an edit replaced and what stands
-there now, a refusal in the words of docs/codes.md, the line and the operand that are meant, the names that M2 and M3
-miss, and the statement at which a run stopped. To find these it runs the program again, with more lines; the session
-itself is not changed.
+All that the program writes is shown, byte for byte and in the same order. In front of each answer is the script line
+that it answers, after `> `. What this tool says comes after `# `: what an edit replaced and by what, a refusal in the
+words of docs/codes.md, the line and the operand that are meant, the names that M2 and M3 miss, and the statement at
+which a run stopped. To find these it runs the program again, with more lines; the session itself is not changed.
 
 SCRIPT may name places by label or text (`change @Serve ADVANCE 160,40`, `delete @/ADVANCE 960/`, `insert before @Serve
 QUEUE Line`) and versions by a comment (`# two doctors`). MODEL or SCRIPT may be `-`, standard input; where MODEL is `-`
@@ -56,7 +55,7 @@ class Explainer:
         return texts
 
     def took(self, line: str) -> None:
-        """An edit that was accepted: what stood there, and what stands there now."""
+        """An edit that was accepted: what was there, and what is there now."""
         word = line.split(" ")[0]
         if word in ("insert", "delete", "change", "capacity"):
             before = list(self.listed())
@@ -66,8 +65,8 @@ class Explainer:
             at = next((at for at, (one, other) in enumerate(zip(before, now)) if one != other), min(len(before), len(now)))
             if word == "insert":
                 at = int(line.split(" ")[1]) - 1
-                behind = f", in front of `{before[at]}`" if at < len(before) else ", at the end"
-                say(f"{at + 1}: inserted `{now[at]}`{behind}")
+                where = f", in front of `{before[at]}`" if at < len(before) else ", at the end"
+                say(f"{at + 1}: inserted `{now[at]}`{where}")
             elif word == "delete":
                 at = int(line.split(" ")[1]) - 1
                 say(f"{at + 1}: deleted `{before[at]}`")

@@ -67,7 +67,7 @@ def main(words: list[str]) -> None:
     batches, level = read.number("--batches", None, 1, 10**9), read.level()
     path, column, *rest = read.rest
     if not all("=" in word for word in rest):
-        raise Problem(f"`{next(word for word in rest if '=' not in word)}`: what is wanted stands as QUEUE=LINE")
+        raise Problem(f"`{next(word for word in rest if '=' not in word)}`: write what is wanted as QUEUE=LINE")
     table = Table(path)
     if not table.has_head:
         warn(f"no head.csv beside {path}: runs without a row in it are not known")

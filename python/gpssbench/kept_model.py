@@ -298,12 +298,13 @@ class KeptModel:
         return found
 
     def trial(self, line: str, start: int) -> str:
-        """What an edit of a statement would keep, in words. It is made on a copy that runs the first replication anew, and
-        nothing changes here."""
+        """What an edit of a statement would keep, in words. It is made on a copy that runs the first replication anew, without
+        workers, and nothing changes here."""
         if line.split(" ", 1)[0] not in OF_STATEMENTS:
             raise Problem(f"what is tried begins with one of {', '.join(OF_STATEMENTS)}")
         number, seed = next(iter(self.bench.replications.items()))
-        copy = KeptModel(self.path, seed, 1, text=self.model_text(), words=self.words)
+        alone = {**self.words, "workers": None}
+        copy = KeptModel(self.path, seed, 1, text=self.model_text(), words=alone)
         try:
             for told in [it for it in self.bench.script if it.startswith("horizon ")][-1:]:
                 copy.edit(told)

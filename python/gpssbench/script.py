@@ -130,7 +130,7 @@ def listed(session: Session) -> list[str]:
 
 def resolve(lines: list[Line], model: Model, words: list[str]) -> list[Line]:
     """The lines as the program takes them. Only edits are made for it, and nothing is simulated. Where the program ends
-    early, the lines behind that stay as they are."""
+    early, the lines after that stay as they are."""
     if not has_places(lines):
         return lines
     with Session(model, words) as session:

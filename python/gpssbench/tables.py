@@ -60,7 +60,7 @@ class Reader:
         return list(self.found.values())
 
     def scenario(self, version: int) -> str:
-        """What a version is called: its name, which is told apart where an earlier version has it, too."""
+        """What a version is called: its name, with a mark where an earlier version has the same."""
         name = self.names.get(version)
         if name is None:
             return f"version {version}"

@@ -32,7 +32,7 @@ def read_session(reader: tables.Reader, written: bytes, name: str) -> list[table
     if reader.broken:
         warn(f"{name}: {reader.broken}; what is whole is written")
     if reader.untold:
-        warn(f"{name}: {reader.untold} answers without a report do not tell their replication; --script does")
+        warn(f"{name}: {reader.untold} answers without a report do not name their replication; --script does")
     return runs
 
 

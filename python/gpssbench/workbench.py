@@ -1,16 +1,18 @@
 """A model that is kept open, in a browser.
 
     tools/workbench MODEL [SCRIPT] [--port 8080] [--replications 8] [--seed S] [--start K] [--every N]
+        [--workers W]
 
-It prints an address with a token, and serves it to this machine alone. On the left stand the statements of the model, with
-the counts of their blocks; a click or Enter edits a line, `i` inserts before it, `a` after it, Delete deletes it. On the
-right stand the figures over all replications, what differs from the baseline with its half-width, the report of a
-replication, histograms, and the script so far. `u` undoes, `r` makes again, `p` pins the baseline, `?` shows the keys.
+It prints an address with a token, and serves it to this machine alone. The left side has the statements of the model,
+with the counts of their blocks; a click or Enter edits a line, `i` inserts before it, `a` after it, Delete deletes it.
+The right side has the figures over all replications, what differs from the baseline with its half-width, the report of
+a replication, histograms, and the script so far. `u` undoes, `r` makes again, `p` pins the baseline, `?` shows the
+keys.
 
-The edits of SCRIPT are made first, where MODEL has none of its own yet; it may name places by label. Each edit that is
-accepted is in MODEL.edits before it is shown, so that nothing is lost: a program that dies, a browser
-that is closed and a workbench that is started anew go on from there. Files are read and written in the model's folder
-alone. Several tabs see each other's edits; a tab that is not up to date is told so. Ctrl-C ends it.
+The edits of SCRIPT are made first, where MODEL has none of its own yet; it may name places by label. Each accepted edit
+is in MODEL.edits before it is shown, so that nothing is lost: after a program that dies, a browser that is closed or a
+workbench that is started anew, work goes on from there. Files are read and written in the model's folder alone. Several
+tabs see each other's edits; a tab that is out of date says so. Ctrl-C ends it.
 
 It wants Tornado; python/install installs it."""
 import fcntl
@@ -213,12 +215,14 @@ class Desk:
             return
         self.since, self.done = time.monotonic(), 0
         try:
-            kept = self.kept.kept_steps(self.start())
+            # beside workers the program's counts of steps do not say what an edit kept
+            alone = not self.words.get("workers")
+            kept = self.kept.kept_steps(self.start()) if alone else {}
             self.keeps = self.kept_so_far(kept)
             self.reports = self.kept.reports(self.start(), self.progress)
             shown = self.shown()
-            self.recorded = self.kept.recorded()
-            shown["cost"] = cost(kept, self.recorded)
+            self.recorded = self.kept.recorded() if alone else {}
+            shown["cost"] = cost(kept, self.recorded) if alone else "what was kept is not counted beside workers"
             shown["seconds"] = round(time.monotonic() - self.since, 2)
             self.tell(self.state())
             self.tell(shown)
@@ -236,7 +240,7 @@ class Desk:
         return f"{stand:,} of {before:,} steps are kept" if before else ""
 
     def ask(self, asked: dict) -> None:
-        """Does what a tab asks; what is wrong with it is told."""
+        """Does what a tab asks, or answers what is wrong with it."""
         try:
             self.answer(asked)
         except Exception:
@@ -506,7 +510,7 @@ def application(desk_of, token: str, hosts: set[str]):
 
 
 def main(words: list[str]) -> int:
-    read = Words(words, "--port --replications --seed --start --every")
+    read = Words(words, "--port --replications --seed --start --every --workers")
     if len(read.rest) not in (1, 2):
         raise Problem("a MODEL is wanted; --help shows how")
     with open(read.rest[0], "rb"):
@@ -515,7 +519,7 @@ def main(words: list[str]) -> int:
     port = read.number("--port", 8080, 1, 65535)
     seed = read.number("--seed", 1945846388, 1, 2147483646)
     count, start = read.number("--replications", 8, 1, 32), read.number("--start", None, 1, 10**9)
-    every = read.number("--every", None, 1, 10**6)
+    every, workers = read.number("--every", None, 1, 10**6), read.number("--workers", None, 0, 16)
     with_packages("tornado")
     import asyncio
     import logging
@@ -529,7 +533,7 @@ def main(words: list[str]) -> int:
     async def serve() -> None:
         token = secrets.token_urlsafe(24)
         hosts = {f"127.0.0.1:{port}", f"localhost:{port}"}
-        desk_of = lambda tell: Desk(read.rest[0], seed, count, start, tell, lines, {"every": every})
+        desk_of = lambda tell: Desk(read.rest[0], seed, count, start, tell, lines, {"every": every, "workers": workers})
         try:
             sockets = bind_sockets(port, "127.0.0.1")
         except OSError as why:

@@ -28,7 +28,7 @@ START 200
 def tool(name, *words, given=b"", cwd=None, **more):
     """Runs a tool as one does from a clone."""
     command = [os.path.join(ROOT, "tools", name), *words]
-    return subprocess.run(command, input=given, capture_output=True, timeout=110, cwd=cwd, env={**os.environ, **more})
+    return subprocess.run(command, input=given, capture_output=True, timeout=300, cwd=cwd, env={**os.environ, **more})
 
 
 START = """
@@ -47,7 +47,7 @@ def no_browser():
     if not (shutil.which("chromium") and shutil.which("chromedriver") and has("selenium", SYSTEM)):
         return "no chromium, chromedriver or selenium"
     try:
-        subprocess.run([SYSTEM, "-c", START], capture_output=True, timeout=60, check=True)
+        subprocess.run([SYSTEM, "-c", START], capture_output=True, timeout=120, check=True)
     except (subprocess.CalledProcessError, subprocess.TimeoutExpired):
         return "chromium does not start here"
     return None

@@ -208,7 +208,7 @@ START 5
         until(b"queue LINE ENTRY")
         until(b"201.000")
         os.write(master, b"quit\n")
-        self.assertEqual(asking.wait(timeout=20), 0)
+        self.assertEqual(asking.wait(timeout=60), 0)
         os.close(master)
         self.assertIn(b"show queue LINE ENTRY", self.read(".gpssbench_history"))
 

@@ -152,7 +152,7 @@ class Installed(InFolder):
             self.skipTest(f"no package {', '.join(missing)}: an installation by pip")
         shutil.copytree(os.path.join(ROOT, "python"), self.path("python"))
         words = ["--no-index", "--no-build-isolation", "--no-deps", "--disable-pip-version-check", "--target", self.path("there")]
-        ran = subprocess.run([SYSTEM, "-m", "pip", "install", *words, self.path("python")], capture_output=True, timeout=100)
+        ran = subprocess.run([SYSTEM, "-m", "pip", "install", *words, self.path("python")], capture_output=True, timeout=300)
         self.assertEqual(ran.returncode, 0, ran.stderr.decode()[-2000:])
         names = lambda *folder: {
             os.path.join(place, name).removeprefix(self.path(os.path.join(*folder)))

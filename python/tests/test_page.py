@@ -124,7 +124,7 @@ class Pages(InFolder):
         self.assertEqual((none.returncode, none.stderr.count(b"\n")), (2, 1), none.stderr)
         if why := no_browser():
             self.skipTest(f"{why}: the page in a browser")
-        ran = subprocess.run([SYSTEM, "-c", BROWSE, self.page, self.folder], capture_output=True, timeout=110)
+        ran = subprocess.run([SYSTEM, "-c", BROWSE, self.page, self.folder], capture_output=True, timeout=300)
         self.assertEqual((ran.returncode, ran.stdout), (0, b"seen\n"), ran.stderr.decode())
         if pictures := os.environ.get("GPSSBENCH_PICTURES"):
             for width in (1280, 400):

@@ -149,7 +149,7 @@ class Studies(InFolder):
                 break
             time.sleep(0.02)
         running[1].kill()
-        told = study.communicate(timeout=100)[1]
+        told = study.communicate(timeout=300)[1]
         self.assertEqual(study.returncode, 0, told)
         self.assertEqual(self.study("local").returncode, 0)
         self.same_files("cluster", "local")

@@ -33,7 +33,7 @@ find = lambda what: driver.find_element(By.CSS_SELECTOR, what)
 text = lambda what: find(what).text
 
 
-def until(holds, what, seconds=20):
+def until(holds, what, seconds=90):
     ends = time.monotonic() + seconds
     while time.monotonic() < ends:
         try:
@@ -47,7 +47,7 @@ def until(holds, what, seconds=20):
 
 def again(act):
     # a page that is shown anew meanwhile is tried again
-    for _ in range(50):
+    for _ in range(400):
         try:
             return act()
         except StaleElementReferenceException:
@@ -162,7 +162,7 @@ try:
     assert ran.endswith(told) and len(told) > 900, told
     find("#tab-figures").click()
 
-    # two tabs: what one edits, the other shows; one that is behind is told
+    # two tabs: what one edits, the other shows; one that is out of date is told so
     first = driver.current_window_handle
     driver.switch_to.new_window("tab")
     driver.get(address)
@@ -308,11 +308,11 @@ def contrast(one, other):
 class Desks(InFolder):
     """What a tab is told, without a browser."""
 
-    def desk(self, text, replications=2):
+    def desk(self, text, replications=2, words=None):
         with open(self.path("desk.gps"), "wb") as file:
             file.write(text)
         self.told = []
-        desk = Desk(self.path("desk.gps"), 1945846388, replications, None, self.told.append)
+        desk = Desk(self.path("desk.gps"), 1945846388, replications, None, self.told.append, words=words)
         self.addCleanup(desk.end)
         return desk
 
@@ -342,6 +342,19 @@ class Desks(InFolder):
         first = told["state"]["statements"][0]
         self.assertEqual((first["comment"], first["front"]), ("größer", ["* Café €"]))
 
+    def test_workers_do_not_show(self):
+        text = b"GENERATE 10,5\nQUEUE Line\nSEIZE Desk\nDEPART Line\nADVANCE 9,5\nRELEASE Desk\nTERMINATE 1\nSTART 500\n"
+        seen = []
+        for words in ({}, {"workers": 3}):
+            desk = self.desk(text, 8, words)
+            figures = self.ask(desk, do="edit", line="change 5 ADVANCE 8,5", seen=7)["figures"]
+            seen.append((figures["rows"], self.ask(desk, do="report", replication=8)["report"]["text"]))
+            desk.end()
+            os.remove(self.path("desk.gps.edits"))
+        self.assertEqual(*seen)
+        self.assertEqual(figures["cost"], "what was kept is not counted beside workers")
+        self.assertIn("it would keep", self.ask(self.desk(text, 2, words), do="try", line="change 5 ADVANCE 8,5")["trial"]["text"])
+
     def test_a_program_that_dies_has_no_further_replication(self):
         desk = self.desk(b"GENERATE 10,5\nTERMINATE 1\nSTART 5\n", 3)
         told = self.ask(desk, do="edit", line="drop 2", seen=2)
@@ -351,6 +364,14 @@ class Desks(InFolder):
         told = self.ask(desk, do="edit", line="change 1 GENERATE 9,5", seen=3)
         self.assertIn("no edit is lost", told["said"]["text"])
         self.assertEqual(told["state"]["replications"], before)
+
+
+def started(command, folder=None):
+    """A process that heeds an interrupt: a shell ignores them for what it runs in the background, and programs inherit
+    that."""
+    heeds = lambda: signal.signal(signal.SIGINT, signal.SIG_DFL)
+    pipes = {"stdout": subprocess.PIPE, "stderr": subprocess.PIPE, "text": True}
+    return subprocess.Popen(command, cwd=folder, preexec_fn=heeds, **pipes)
 
 
 class Workbench(InFolder):
@@ -367,12 +388,12 @@ class Workbench(InFolder):
 
     def serve(self, *more):
         command = [os.path.join(ROOT, "tools", "workbench"), self.path("ward.gps"), *more, "--port", str(self.port)]
-        server = subprocess.Popen(command, stdout=subprocess.PIPE, stderr=subprocess.PIPE, text=True)
+        server = started(command)
 
         def stop():
             server.send_signal(signal.SIGINT)
             try:
-                server.communicate(timeout=10)
+                server.communicate(timeout=60)
             except subprocess.TimeoutExpired:
                 server.kill()
                 server.communicate()
@@ -384,7 +405,7 @@ class Workbench(InFolder):
         return server, line.strip()
 
     def status(self, path, **headers):
-        asked = http.client.HTTPConnection("127.0.0.1", self.port, timeout=10)
+        asked = http.client.HTTPConnection("127.0.0.1", self.port, timeout=60)
         asked.request("GET", path, headers=headers)
         answer = asked.getresponse()
         answer.read()
@@ -452,7 +473,7 @@ class Workbench(InFolder):
             self.skipTest(f"{why}: the workbench in a browser")
         server, address = self.serve("--every", "50")
         words = [SYSTEM, "-c", BROWSE, address, self.folder, str(server.pid)]
-        ran = subprocess.run(words, capture_output=True, timeout=110)
+        ran = subprocess.run(words, capture_output=True, timeout=300)
         self.assertEqual((ran.returncode, ran.stdout), (0, b"seen\n"), ran.stderr.decode()[-3500:])
         if pictures := os.environ.get("GPSSBENCH_PICTURES"):
             for name in os.listdir(self.folder):
@@ -464,7 +485,7 @@ class Workbench(InFolder):
         self.write("long.gps", "GENERATE 10\nADVANCE 30\nTERMINATE 1\nSTART 135000\n")
         _, address = self.serve()
         python = SYSTEM if has("tornado", SYSTEM) else "python3"
-        ran = subprocess.run([python, "-c", LISTEN, address, "long.gps"], capture_output=True, timeout=110)
+        ran = subprocess.run([python, "-c", LISTEN, address, "long.gps"], capture_output=True, timeout=300)
         self.assertEqual((ran.returncode, ran.stdout.decode().split("\n")[-2:]), (0, ["heard", ""]), ran.stderr.decode())
         if os.environ.get("GPSSBENCH_PICTURES"):
             print(ran.stdout.decode().split("\n")[0])
@@ -487,11 +508,11 @@ class Workbench(InFolder):
             free.bind(("127.0.0.1", 0))
             port = free.getsockname()[1]
         command = [os.path.join(ROOT, "tools", "workbench"), "other.gps", "what.script", "--port", str(port)]
-        other = subprocess.Popen(command, stdout=subprocess.PIPE, stderr=subprocess.PIPE, text=True, cwd=self.folder)
+        other = started(command, self.folder)
         self.assertIn("other.gps.edits were made again: 1\n", other.stdout.readline())
         other.stdout.readline()
         other.send_signal(signal.SIGINT)
-        self.assertIn("what.script is left out", other.communicate(timeout=10)[1])
+        self.assertIn("what.script is left out", other.communicate(timeout=60)[1])
         bad = self.write("bad.script", "change @Nowhere STORAGE 11\n")
         ran = tool("workbench", self.path("clinic.gps"), bad, "--port", str(port))
         self.assertEqual((ran.returncode, ran.stderr.count(b"\n"), b"line 1 of the script" in ran.stderr), (2, 1, True), ran.stderr)

@@ -38,7 +38,7 @@ reads_one xs i ys asked = record {
   go true = refl
   go false = refl
 
--- the items of two evaluations, one behind the other
+-- the items of two evaluations, one after the other
 reads_then : (xs ys zs : Noted) (first second whole : List Item) → Reads xs first ys → Reads ys second zs → whole ≡ first ++ second → Reads xs whole zs
 reads_then xs ys zs first second whole a b both = record {
   now = b.now ∙ a.now;
@@ -88,14 +88,14 @@ module _ (t : Listing) (seed : ℕ) where
       (both.0, subst (λ is. Reads xs is ys) (sym both.1) h.1)
   decides_halt p k halts.Memory xs ys h = h
 
-  -- behind a question that was noted
+  -- after a question that was noted
   pub decides_asked : {B : Type 0} (i : Item) (k : Answer i → Eval B) (r : Result B Halt) (xs ys zs : Noted) →
       Asks xs i ys → Decides t seed (k (ask t seed i)) r ys zs → Decides t seed (asks i k) r xs zs
   decides_asked {B} i k r xs ys zs asked h =
       let same : Ok (ask t seed i, xs.streams) ≡ Ok (ask t seed i, ys.streams) = ap (λ s. Ok (ask t seed i, s)) (sym asked.drawn) in
       decides_then (asks i (λ x. gives x)) k (ask t seed i) r xs ys zs (same, reads_one xs i ys asked) h
 
-  -- the exit by `?` behind the first evaluation
+  -- the exit by `?` after the first evaluation
   pub decides_exit : {A B : Type 0} (p : Eval A) (k : A → Eval B) (q : Eval B) (r : Result B Halt) (e halt : Halt) (xs ys : Noted) →
       q ≡ (p ~> k) → r ≡ Err e → e ≡ halt → Decides t seed p (Err halt) xs ys → Decides t seed q r xs ys
   decides_exit {A} {B} p k q r e halt xs ys whole is same h =
@@ -111,7 +111,7 @@ module _ (t : Listing) (seed : ℕ) where
   decides_left p k (Err e) halt xs ys exit h =
       subst (λ (f : Halt). Decides t seed (p ~> k) (Err f) xs ys) (sym exit) (decides_halt p k halt xs ys h)
 
-  -- the rest behind the first evaluation
+  -- the rest after the first evaluation
   pub decides_whole : {A B : Type 0} (p : Eval A) (k : A → Eval B) (q : Eval B) (a : A) (r : Result B Halt) (xs ys zs : Noted) →
       q ≡ (p ~> k) → Decides t seed p (Ok a) xs ys → Decides t seed (k a) r ys zs → Decides t seed q r xs zs
   decides_whole {A} {B} p k q a r xs ys zs whole first second =

@@ -7,7 +7,7 @@ use Rattle.gw_meaning.specs.Questions.{result_of, items_of}
 use Rattle.gw_meaning.specs.Evaluation.{Eval, gives, ends_with}
 use Rattle.gw_asking.specs.Noted.{Noted, Reads, Keeps}
 
--- the result, the questions and the streams behind the draws are the evaluation's; only a refused growth leaves them
+-- the result, the questions and the streams after the draws are the evaluation's; only a refused growth leaves them
 -- open, and it keeps what was noted of earlier steps
 abbrev pub Decides : {A : Type 0} → Listing → ℕ → Eval A → Result A Halt → Noted → Noted → Type 0
 Decides t seed p (Ok a) old new =

@@ -16,7 +16,7 @@ pub record Noted : Type 0 where
   pub firsts : FirstUses
   -- the step that reads
   pub step : ℕ
-  -- the streams behind the draws
+  -- the streams after the draws
   pub streams : List Stream
 
 -- the step read these items, too; it may have drawn

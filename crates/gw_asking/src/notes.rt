@@ -1,4 +1,4 @@
-ghost use Rattle.std.specs.Prelude.{◌≡◌, ◌+◌, ◌<◌, ◌^◌, ◌-◌, OnOk, OnErr};
+ghost use Rattle.std.specs.Prelude.{◌≡◌, ◌+◌, ◌<◌, ◌^◌, ◌-◌, IfOk, OnOk, OnErr};
 ghost use Rattle.gw_streams.specs.Draws.{all_set};
 ghost use Rattle.gw_meaning.specs.declared.item.Item.TheVariants as items;
 ghost use Rattle.gw_uses.specs.Steps.{AreBelow};
@@ -15,7 +15,7 @@ use std::marker::Model;
 /// The last number that a step may have; the next one stands for no step.
 const LAST: u64 = u64::MAX - 1;
 
-/// What steps note on their way: for each item the first step that read it, and the streams behind their draws.
+/// What steps note on their way: for each item the first step that read it, and the streams after their draws.
 #[derive(Drop)]
 pub struct Notes {
     firsts: FirstUses,
@@ -47,6 +47,17 @@ impl Notes {
         }
     }
 
+    /// The same notes.
+    pub fn copy(&self) -> Result<Notes, AllocError>
+        ensures { IfOk result (λ n. n ≡ self.now) }
+    {
+        Ok(Notes {
+            firsts: self.firsts.copy()?,
+            step: self.step,
+            streams: self.streams,
+        })
+    }
+
     /// The first step that read each item.
     pub fn firsts(&self) -> &FirstUses
         ensures { result.now ≡ self.now.firsts }
@@ -54,7 +65,7 @@ impl Notes {
         &self.firsts
     }
 
-    /// The streams behind the draws.
+    /// The streams after the draws.
     #[inline(always)]
     pub fn streams(&self) -> Streams
         ensures { result ≡ self.now.streams }
@@ -85,7 +96,7 @@ impl Notes {
         self.step = step;
     }
 
-    /// Forgets the steps from one on, that one too, and the draws behind these streams.
+    /// Forgets the steps from one on, that one too, and the draws after these streams.
     pub fn go_back(&mut self, step: u64, streams: Streams)
         ensures { Forgets step streams self.old self.new }
     {
@@ -94,7 +105,7 @@ impl Notes {
         self.streams = streams;
     }
 
-    /// Forgets the step that reads, and its draws behind these streams.
+    /// Forgets the step that reads, and its draws after these streams.
     #[cold]
     #[inline(never)]
     pub fn forget(&mut self, streams: Streams)

@@ -89,7 +89,7 @@ there {ks} {cs} {i} {key} {was} kept placed inside read =
       most = omega (arith, fewer, all, ap length queue);
     }
 
--- behind the last chain nobody waits, so where somebody does, there is one
+-- after the last chain nobody waits, so where somebody does, there is one
 pub nobody_behind : (ks : List Key) (cs : List Own) (i : ℕ) (key : Key) → IsDistinct key_eq ks →
     slice_get ks i ≡ Some key → length cs ≤ i → delay_at (delays_of (chains_of ks cs)) key ≡ []
 nobody_behind ks cs i key distinct placed behind =

@@ -1,4 +1,4 @@
--- Laws of the lists behind the chains.
+-- Laws of the lists after the chains.
 use Rattle.std.proofs.Common.{◌≡◌, ℕ, ◌+◌, ◌<◌, arith, drop_of_length-le, ◌-◌, true, false, List, [], ◌∷◌, Option, None, Some, option_to_list, ◌++◌, length, get_or, take, drop, insert, slice_get, refl, sym, ap, subst, ◌∙◌, append_assoc}
 use Rattle.std.proofs.lemmas.List.{drop_more, take_more, take-append-drop}
 use Rattle.std.proofs.lemmas.List.Edits.{insert_end}
@@ -24,7 +24,7 @@ rest_in_order (Some x) xs whole is h = in_order xs (ordered (x ∷ xs) (subst Ar
 item_at : (xs : List Transaction) (i : ℕ) (y : Transaction) → slice_get xs i ≡ Some y → drop i xs ≡ y ∷ drop (i + 1) xs
 item_at xs i y there = item_drop xs i y (slice_get_within xs i y there) (sym (get_or_from_slice_get xs i y y there))
 
--- behind the item at i of a chain in order, where it is not of lower priority and those after it are
+-- after the item at i of a chain in order, where it is not of lower priority and those after it are
 pub lined_up_at : (x : Transaction) (xs : List Transaction) (i : ℕ) (y : Transaction) → AreInOrder xs → slice_get xs i ≡ Some y →
     is_below y.priority x.priority ≡ false → lined_up x (drop (i + 1) xs) ≡ x ∷ drop (i + 1) xs → lined_up x xs ≡ insert xs (i + 1) x
 lined_up_at x xs i y order there above rest =
@@ -43,13 +43,13 @@ comes_first x xs i y there below =
     let item = item_at xs i y there in
     ap (lined_up x) item ∙ (rw below refl ∙ ap (λ l. x ∷ l) (sym item))
 
--- behind the last one
+-- after the last one
 pub nobody_left : (x : Transaction) (xs : List Transaction) (n : ℕ) → n ≡ length xs → lined_up x (drop n xs) ≡ x ∷ drop n xs
 nobody_left x xs n all =
     let none : drop n xs ≡ [] = drop_of_length-le xs (omega (arith, all)) in
     rw none refl
 
--- behind the last one of a chain in order, where that is not of lower priority
+-- after the last one of a chain in order, where that is not of lower priority
 pub lined_up_last : (x : Transaction) (xs : List Transaction) (n : ℕ) (y : Transaction) → AreInOrder xs → n ≡ length xs → 0 < n → slice_get xs (n - 1) ≡ Some y →
     is_below y.priority x.priority ≡ false → lined_up x xs ≡ xs ++ x ∷ []
 lined_up_last x xs n y order all some there above =

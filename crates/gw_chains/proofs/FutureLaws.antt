@@ -31,7 +31,7 @@ all_items_in_use (b ∷ bs) = go b.items refl (all_items_in_use bs) where
       let some : nat_lt 0 (suc (length es)) ≡ true = grind (arith, nat_tests) in
       rw (h, some) (ap (λ zs. e ∷ es ++ zs) rest)
 
--- what stands before a block, on it, and behind it
+-- what stands before a block, on it, and after it
 pub cut : (bs : List Full) (i : ℕ) (b : Full) → i < length bs → b ≡ get_or bs i b →
     all_items bs ≡ all_items (take i bs) ++ (b.items ++ all_items (drop (suc i) bs))
 cut [] i b h is = absurd (omega (arith, h))
@@ -77,7 +77,7 @@ copied_block bs copies k b u h is same done =
     all_items_append copies (u ∷ []) ∙ (ap (λ es. es ++ (u.items ++ [])) done ∙ (ap (λ es. all_items (take k bs) ++ (es ++ [])) same ∙
     sym (ap all_items more ∙ all_items_append (take k bs) (b ∷ []))))
 
--- the last block is full, and an empty one stands behind it
+-- the last block is full, and an empty one stands after it
 pub full_is : (bs : List Full) (full : Full) (last fresh : List Event) → full.items ≡ last → fresh ≡ [] →
     all_items (bs ++ full ∷ []) ++ fresh ≡ all_items bs ++ last
 full_is bs full last fresh same none =

@@ -264,7 +264,7 @@ without_ordered (Some units ∷ shares) (x ∷ xs) h = without_ordered shares xs
 pub without_in_order : (shares : Shares) (chain : List Transaction) → AreInOrder chain → AreInOrder (without_share shares chain)
 without_in_order shares chain h = in_order (without_share shares chain) (without_ordered shares chain (ordered chain h))
 
--- the room for the first of those who are let in, and for the others behind it
+-- the room for the first of those who are let in, and for the others after it
 pub room_first : (xs ys : List Transaction) (x : Transaction) (room limit : ℕ) → ys ≡ x ∷ xs → HasRoomToLetAllIn ys room limit →
     (0 < room) × IsWithin x.destination limit
 room_first xs ys x room limit is h =

@@ -149,7 +149,7 @@ pub no_more_leave : (n : ℕ) → (◌≡◌ {A = List Transaction} (drop n []) 
 no_more_leave zero = (refl, refl)
 no_more_leave (suc n) = (refl, refl)
 
--- how many are on all behind it
+-- how many are on all after it
 pub fewer : (l : Linked) (key : Key) (c : UserChain) (n count gone : ℕ) → value_of l key ≡ Some c → count ≡ length (waiting (members_of l)) →
     gone ≡ length c.members - length (drop n c.members) →
     (gone ≤ count) × (count - gone ≡ length (waiting (members_of (with_value l key (record { entries = c.entries; members = drop n c.members })))))

@@ -15,7 +15,7 @@ queues_of chains = map (λ (c : Chain Transaction). c.items) chains
 abbrev pub nobody : Chain Transaction
 nobody = record { items = []; room = 0 }
 
--- each key with its chain: behind the last chain, with one on which nobody waits
+-- each key with its chain: after the last chain, with one on which nobody waits
 abbrev pub chains_of : List Key → List (Chain Transaction) → List (Key × Chain Transaction)
 chains_of [] chains = []
 chains_of (k ∷ ks) [] = (k, nobody) ∷ chains_of ks []

@@ -71,7 +71,7 @@ impl PriorityChain {
         self.transactions.reserve(count)
     }
 
-    /// Puts a transaction on it: behind its equals, in front of the first of lower priority.
+    /// Puts a transaction on it: after its equals, in front of the first of lower priority.
     pub fn line_up(&mut self, x: Transaction)
         requires { 0 < self.old.room }
         ensures items { self.new.items ≡ lined_up x self.old.items }

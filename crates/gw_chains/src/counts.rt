@@ -133,7 +133,7 @@ impl Counts {
         self.table.set(id.number(), count);
     }
 
-    /// No entry is counted any more, as behind a RESET. Who stands in a block stays there.
+    /// No entry is counted any more, as after a RESET. Who stands in a block stays there.
     pub fn count_anew(&mut self)
         ensures { self.new.entries ≡ map (λ c. (c.0, count_anew c.1)) self.old.entries }
     {
@@ -159,7 +159,7 @@ impl Counts {
     }
 }
 
-// What is counted at a block behind the entry of a transaction.
+// What is counted at a block after the entry of a transaction.
 #[inline(always)]
 fn entered(count: Count, fate: &Fate) -> Count
     ensures { result ≡ record count {
@@ -174,7 +174,7 @@ fn entered(count: Count, fate: &Fate) -> Count
     }
 }
 
-// The content of a block behind the entry of a transaction.
+// The content of a block after the entry of a transaction.
 fn content_behind(fate: &Fate, content: u64) -> u64
     ensures { result ≡ content_behind fate.now content }
 {

@@ -112,7 +112,7 @@ impl DelayChains {
         }
     }
 
-    /// A transaction waits for a facility or a storage: behind its equals, in front of the first of lower priority.
+    /// A transaction waits for a facility or a storage: after its equals, in front of the first of lower priority.
     /// Where memory is refused, nobody waits but those who did.
     #[inline(always)]
     pub fn line_up(&mut self, key: &Key, x: Transaction) -> Result<(), AllocError>

@@ -97,7 +97,7 @@ impl FutureChain {
         self.last.reserve(count)
     }
 
-    // The last block is full: an empty one stands behind it.
+    // The last block is full: an empty one stands after it.
     #[cold]
     #[inline(never)]
     fn begin_block(&mut self) -> Result<(), AllocError>

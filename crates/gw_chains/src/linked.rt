@@ -136,7 +136,7 @@ impl UserChains {
         Ok(())
     }
 
-    /// So many from the front of a user chain go to a block, one by one: each comes onto the current chain behind its
+    /// So many from the front of a user chain go to a block, one by one: each comes onto the current chain after its
     /// equals.
     pub fn unlink(&mut self, key: &Key, count: u64, to: Destination, current: &mut PriorityChain)
         requires { count ≤ current.old.room }
@@ -156,7 +156,7 @@ impl UserChains {
         self.count -= gone;
     }
 
-    /// Nobody was linked, as far as is counted, as behind a RESET. Who is on a user chain stays there.
+    /// Nobody was linked, as far as is counted, as after a RESET. Who is on a user chain stays there.
     pub fn count_anew(&mut self)
         ensures { self.new ≡ map (λ c. (c.0, user_chain_anew c.1)) self.old }
     {

@@ -71,7 +71,7 @@ impl UserChain {
         self.entries = 0;
     }
 
-    // So many from the front go to a block: each comes onto the current chain behind its equals.
+    // So many from the front go to a block: each comes onto the current chain after its equals.
     pub fn unlink(&mut self, count: u64, to: Destination, current: &mut PriorityChain)
         requires { count ≤ current.old.room }
         ensures entries { self.new.entries ≡ self.old.entries }

@@ -1,4 +1,4 @@
--- The recorded runs behind an edit are runs of the edited version.
+-- The recorded runs after an edit are runs of the edited version.
 use Rattle.std.proofs.Common.{◌≡◌, ℕ, ◌<◌, Bool, true, false, cond, List, [], ◌∷◌, ◌++◌, ◌+◌, length, filter, is_some, Option, Some, None, Result, Ok, Err, refl, sym, ap, subst, ◌∙◌, length-append, arith}
 use Rattle.gw_meaning.specs.declared.statement.Statement.{Statement}
 use Rattle.gw_meaning.specs.Numbers.{AreNumbered}
@@ -12,6 +12,8 @@ use Rattle.gw_touch.specs.Touching.{storage_place, touch_of}
 use Rattle.gw_touch.specs.Touched.{touched_step, IsKeptOf}
 use Rattle.gw_edit.specs.declared.fault.EditFault.{EditFault}
 use Rattle.gw_edit.specs.declared.fault.EditFault.TheVariants as faults
+use Rattle.gw_edit.specs.Leading.{LeadsTo}
+use Rattle.gw_edit.proofs.LeadLaws.{leads_more}
 use Rattle.gw_edit.specs.Faults.{Gives, of_line, of_model}
 use Rattle.gw_lines.specs.declared.fault.LineFault.{LineFault}
 use Rattle.gw_lines.specs.declared.fault.LineFault.TheVariants as lines
@@ -22,15 +24,25 @@ use Rattle.gw_model.specs.declared.fault.ModelFault.TheVariants as models
 use Rattle.gw_lines.specs.Printed.{storage_of}
 use Rattle.gw_edit.specs.Applied.{applied, capacity_at, checked, unless_faulty, or_refusal, spelled_by, reseeded, without_number, has_replication}
 use Rattle.gw_desk.specs.declared.recording.Recording.{Recording}
-use Rattle.gw_desk.specs.Book.{Book, IsBook, run_in, IsRunOf, AreRuns}
+use Rattle.gw_desk.specs.Book.{Book, IsBook, run_in, IsRunOf, AreRuns, AreApart}
 use Rattle.gw_desk.specs.Editing.{Accepts, Refuses}
+use Rattle.gw_desk.specs.declared.texts.Place.{Place}
+use Rattle.gw_desk.specs.Texts.{AreTexts}
+use Rattle.gw_desk.proofs.TextLaws.{texts_past}
 use Rattle.gw_desk.specs.Rebasing.{AreRebased, with_missing}
 use Rattle.gw_record.proofs.Blank.{blank_records}
+use Rattle.gw_desk.proofs.ApartLaws.{apart_rebased, apart_missing, apart_left}
 use Rattle.gw_desk.proofs.RebaseLaws.{IsRebasedOf, rebased_in, missing_or, missing_in, left_in}
 
--- the runs behind an edit
+-- the runs after an edit
 abbrev pub runs_behind : ℕ → Listing → List Recording → List Recording
 runs_behind every u runs = filter (λ (r : Recording). is_some (seed_at u r.number)) (with_missing every u.replications runs)
+
+apart_behind : (every : ℕ) (t : Listing) (e : Edit) (u : Listing) (old cut : List Recording) → AreRebased t e u old cut → AreApart old →
+    AreApart (runs_behind every u cut)
+apart_behind every t e u old cut rebased apart =
+    apart_left (λ (r : Recording). is_some (seed_at u r.number)) (with_missing every u.replications cut)
+    (apart_missing every u.replications cut (apart_rebased t e u old cut rebased apart))
 
 module _ (every : ℕ) (t : Listing) (e : Edit) (u : Listing) (old cut : List Recording) (made : applied t e ≡ Ok u) (runs : AreRuns t every old)
     (rebased : AreRebased t e u old cut) where
@@ -157,7 +169,7 @@ refuses b e faults.NoSuchReplication room h = (room, h)
 refuses b e faults.ReplicationTwice room h = (room, h)
 refuses b e faults.NoSuchStorage room h = (room, h)
 
--- an edit of a desk that is made: the runs are those that it leaves, and it is put behind those before it
+-- an edit of a desk that is made: the runs are those that it leaves, and it is put after those before it
 pub record IsMade (b : Book) (e : Edit) (u : Listing) (cut runs : List Recording) (all : List Edit) : Type 0 where
   pub room : length b.edits < 4096
   pub made : applied b.version e ≡ Ok u
@@ -174,6 +186,7 @@ module _ (b : Book) (e : Edit) (u : Listing) (cut runs : List Recording) (all : 
   pub accepts : (n : ℕ) → n ≡ length all → Accepts b e edited n
   accepts n number = rw m.behind (record {
     room = m.room;
+    opening = refl;
     version = m.made;
     edits = m.more;
     number = number;
@@ -185,13 +198,21 @@ module _ (b : Book) (e : Edit) (u : Listing) (cut runs : List Recording) (all : 
     fresh = λ rep x none is. fresh_run b.every b.version e u b.runs cut m.made m.desk.runs m.rebased rep x none is;
   })
 
+  one_more : length all ≡ length b.edits + 1
+  one_more = ap length m.more ∙ length-append b.edits (e ∷ [])
+
+  pub still_texts : (texts : List (Place × List ℕ)) → AreTexts b.version (length b.edits) texts → AreTexts u (length all) texts
+  still_texts texts are = texts_past b.version u (length b.edits) (length all) texts one_more are
+
   pub still_desk : AreNumbered u.lines → IsBook edited
   still_desk numbered =
-      let one_more : length all ≡ length b.edits + 1 = ap length m.more ∙ length-append b.edits (e ∷ []) in
+      let one = one_more in
       let room = m.room in
       record {
         some = m.desk.some;
-        few = omega (arith, room, one_more);
+        few = omega (arith, room, one);
         numbered = numbered;
+        leads = subst (λ es. LeadsTo b.opening es u) (sym m.more) (leads_more b.opening b.version u b.edits e m.desk.leads m.made);
         runs = subst (λ xs. AreRuns u b.every xs) (sym m.behind) (new_runs b.every b.version e u b.runs cut m.made m.desk.runs m.rebased);
+        apart = subst AreApart (sym m.behind) (apart_behind b.every b.version e u b.runs cut m.rebased m.desk.apart);
       }

@@ -1,23 +1,30 @@
 -- What the making of missing steps leaves of the desk.
-use Rattle.std.proofs.Common.{◌≡◌, ◌≢◌, ℕ, suc, ◌-◌, ◌<◌, ◌≤◌, ◌==◌, nat_lt, Bool, true, false, cond, List, [], ◌∷◌, length, get_or, set, Some, None, Result, Ok, Err, IfOk, refl, sym, ap, subst, ◌∙◌, arith}
+use Rattle.std.proofs.Common.{◌≡◌, ◌≢◌, ℕ, suc, ◌-◌, ◌<◌, ◌≤◌, ◌==◌, nat_lt, Bool, true, false, cond, List, [], ◌∷◌, length, get_or, set, Some, None, Result, Ok, Err, IfOk, OnErr, refl, sym, ap, subst, ◌∙◌, arith}
 use Rattle.std.proofs.lemmas.Bool.Decides.{nat_tests}
+use Rattle.std.proofs.lemmas.List.{set-get_or}
 use Rattle.std.specs.List.{position_or_len}
 use Rattle.std.proofs.lemmas.List.Quantifiers.{position-Some}
 use Rattle.std.proofs.lemmas.List.Sums.{fails_before_first}
+use Rattle.std.specs.declared.alloc.AllocError.{AllocError}
 use Rattle.gw_meaning.specs.Listing.{Listing, seed_at}
 use Rattle.gw_meaning.specs.Step.{step}
 use Rattle.gw_record.specs.declared.reach.Reach.{Reach}
 use Rattle.gw_record.specs.declared.reach.Reach.TheVariants as reaches
-use Rattle.gw_record.specs.Tape.{Tape, Records}
+use Rattle.gw_record.specs.Tape.{Tape, Records, from_tip}
 use Rattle.gw_record.specs.Extending.{tallied}
 use Rattle.gw_record.specs.Reaching.{Reaches, AreWanted}
 use Rattle.gw_desk.specs.declared.recording.Recording.{Recording}
 use Rattle.gw_desk.specs.Looking.{IsOpen}
-use Rattle.gw_desk.specs.Book.{Book, IsBook, run_in, place_in, IsRunOf, AreRuns}
+use Rattle.gw_desk.specs.Book.{Book, IsBook, run_in, place_in, IsRunOf, AreRuns, AreApart}
 use Rattle.gw_desk.specs.Finishing.{Finishes, GoesOn}
 use Rattle.gw_desk.specs.Peeking.{IsUnfinished}
+use Rattle.gw_desk.specs.Legs.{IsBranchOf}
+use Rattle.gw_desk.specs.declared.post.Post.{Post}
+use Rattle.gw_desk.specs.declared.post.Post.TheVariants as posts
+use Rattle.gw_desk.specs.Records.{RecordsOn, Continues, Offers}
 use Rattle.gw_desk.proofs.Looks.{complete_there}
 use Rattle.gw_desk.proofs.PeekLaws.{not_unfinished}
+use Rattle.gw_desk.proofs.ApartLaws.{apart_set}
 use Rattle.gw_desk.proofs.RunLaws.{run_in_at, run_in_set}
 
 -- where the making of steps stopped the recorded steps decide
@@ -65,16 +72,66 @@ module _ (b : Book) (rep seed place : ℕ) (d : Recording) (new : Tape) (h : IsB
         subst (λ o. IsRunOf b.version b.every o (Some new)) (sym with_seed) (records, every, start)
     go false e = h.runs n
 
+  new_apart : AreApart changed
+  new_apart = apart_set b.runs place d (record { number = d.number; run = new }) first.0 (ap (λ (r : Recording). r.number) at) h.apart
+
   pub still_book : (made : ℕ) → Records b.version seed new → new.every ≡ d.run.every → new.start ≡ d.run.start →
       IsBook (record b { runs = changed; made = made })
   still_book made records every start =
-      record { some = h.some; few = h.few; numbered = h.numbered; runs = new_runs records (every ∙ old_records.1) (start ∙ old_records.2) }
+      record { some = h.some; few = h.few; numbered = h.numbered; leads = h.leads; runs = new_runs records (every ∙ old_records.1) (start ∙ old_records.2); apart = new_apart }
+
+  -- the run from its tip on
+  pub branch_is : (result : Result Tape AllocError) → IfOk result (λ branch. branch ≡ from_tip d.run) →
+      IfOk result (λ branch. (t : Listing) (s : ℕ) → Records t s d.run → Records t s branch) → IfOk result (IsBranchOf b rep seed)
+  branch_is (Ok branch) is_from records =
+      record { run = d.run; there = old_run; from = is_from; records = records b.version seed old_records.0 }
+  branch_is (Err e) is_from records = tt
+
+  records_on : (left : Tape) → left.start ≤ d.run.moment → d.run.moment < left.moment → new.moment ≡ left.moment →
+      RecordsOn b rep left (record b { runs = changed })
+  records_on left from beyond moment = record {
+    own = d.run;
+    had = old_run;
+    from = from;
+    beyond = beyond;
+    run = new;
+    there = new_run;
+    moment = moment;
+    opening = refl;
+    version = refl;
+    every = refl;
+    edits = refl;
+    made = refl;
+    others = others_stay;
+  }
+
+  unchanged : new ≡ d.run → record b { runs = changed } ≡ b
+  unchanged same =
+      let old : set b.runs place (record { number = d.number; run = new }) ≡ b.runs =
+      ap (λ (r : Tape). set b.runs place (record { number = d.number; run = r })) same ∙
+      (ap (λ (x : Recording). set b.runs place x) at ∙ set-get_or b.runs place d) in
+      ap (λ (xs : List Recording). record b { runs = xs }) old
+
+  offers : (left : Tape) (post : Post) → Continues d.run left post new → Offers b rep left post (record b { runs = changed })
+  offers left posts.Posted (from, beyond, adopts) = records_on left from beyond (ap (λ (r : Tape). r.moment) adopts.is)
+  offers left posts.Dropped (same, why) = (unchanged same, record { own = d.run; had = old_run; why = why })
+
+  -- a run was offered
+  pub offered : (left : Tape) (result : Result Post AllocError) → IfOk result (λ post. Continues d.run left post new) →
+      IfOk result (λ post. Offers b rep left post (record b { runs = changed }))
+  offered left (Ok post) h = offers left post h
+  offered left (Err e) h = tt
+
+  pub offered_in_vain : (result : Result Post AllocError) → OnErr result (new ≡ d.run) → OnErr result (record b { runs = changed } ≡ b)
+  offered_in_vain (Ok post) h = tt
+  offered_in_vain (Err e) h = unchanged h
 
   pub finishes : (k made : ℕ) → new.every ≡ d.run.every → new.start ≡ d.run.start → d.run.moment ≤ new.moment →
       AreWanted b.version seed k d.run.moment new.moment →
       made ≡ tallied b.made (new.moment - d.run.moment) → Finishes b rep k (record b { runs = changed; made = made })
   finishes k made every start grows wanted counted =
       record {
+        opening = refl;
         version = refl;
         every = refl;
         edits = refl;

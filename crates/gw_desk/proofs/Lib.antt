@@ -6,7 +6,14 @@ pub mod PeekLaws
 pub mod RunLaws
 pub mod FinishLaws
 pub mod RebaseLaws
+pub mod ApartLaws
 pub mod EditLaws
 pub mod PlayLaws
 pub mod HeadlineLaws
 pub mod AnewLaws
+pub mod FateLaws
+pub mod PostLaws
+pub mod TakeLaws
+pub mod TextLaws
+pub mod Places
+pub mod WorkingLaws

@@ -62,7 +62,7 @@ rebased_in t e u (r ∷ old) (x ∷ new) h n =
       go false is true was first rest = let same = first.number in absurd (grind (arith, nat_tests))
 
 -- a list with one more run at its end
-run_in_more : (runs : List Recording) (x : Recording) (n : ℕ) → run_in (runs ++ x ∷ []) n ≡ option_or (run_in runs n) (cond (x.number == n) (Some x.run) None)
+pub run_in_more : (runs : List Recording) (x : Recording) (n : ℕ) → run_in (runs ++ x ∷ []) n ≡ option_or (run_in runs n) (cond (x.number == n) (Some x.run) None)
 run_in_more [] x n = refl
 run_in_more (r ∷ runs) x n = go (r.number == n) (run_in_more runs x n) where
   go : (b : Bool) → run_in (runs ++ x ∷ []) n ≡ option_or (run_in runs n) (cond (x.number == n) (Some x.run) None) →

@@ -6,9 +6,12 @@ use Rattle.gw_meaning.specs.Numbers.{AreNumbered}
 use Rattle.gw_meaning.specs.Listing.{Listing, seed_at}
 use Rattle.gw_record.specs.Tape.{Tape, Records, blank}
 use Rattle.gw_touch.specs.declared.edit.Edit.{Edit}
+use Rattle.gw_edit.specs.Leading.{LeadsTo}
 use Rattle.gw_desk.specs.declared.recording.Recording.{Recording}
 
 pub record Book : Type 0 where
+  -- the version before the first edit
+  pub opening : Listing
   pub version : Listing
   pub every : ℕ
   -- the accepted ones, in order
@@ -36,12 +39,19 @@ IsRunOf t every (Some seed) (Some r) = Records t seed r × (r.every ≡ every) �
 abbrev pub AreRuns : Listing → ℕ → List Recording → Type 0
 AreRuns t every runs = (number : ℕ) → IsRunOf t every (seed_at t number) (run_in runs number)
 
--- what every desk keeps
+-- no two recordings are of one replication
+abbrev pub AreApart : List Recording → Type 0
+AreApart [] = Unit {0}
+AreApart (r ∷ rs) = (run_in rs r.number ≡ None) × AreApart rs
+
+-- what every desk keeps; so the recordings' numbers are those of the replications, each once
 pub record IsBook (b : Book) : Type 0 where
   pub some : 1 ≤ b.every
   pub few : length b.edits ≤ 4096
   pub numbered : AreNumbered b.version.lines
+  pub leads : LeadsTo b.opening b.edits b.version
   pub runs : AreRuns b.version b.every b.runs
+  pub apart : AreApart b.runs
 
 -- runs of no steps, of these replications
 abbrev pub blank_runs : ℕ → List Replication → List Recording

@@ -20,9 +20,10 @@ pub record IsCut (old : Book) (e : Edit) (new : Book) (rep seed : ℕ) (r : Tape
   pub kept : IsKeptOf old.version seed r (touched_step (touch_of old.version e new.version rep) old.version seed r)
       run.moment
 
--- an accepted edit, which is the n-th: it is put behind those before it
+-- an accepted edit, which is the n-th: it is put after those before it
 pub record Accepts (old : Book) (e : Edit) (new : Book) (n : ℕ) : Type 0 where
   pub room : length old.edits < 4096
+  pub opening : new.opening ≡ old.opening
   pub version : applied old.version e ≡ Ok new.version
   pub edits : new.edits ≡ old.edits ++ e ∷ []
   pub number : n ≡ length new.edits

@@ -1,12 +1,14 @@
--- The headline: after any list of edits and queries each report handed out is, byte for byte, the report of the model
--- that `list` prints, opened anew and run from zero. (Our own.)
-use Rattle.std.specs.Prelude.{◌≡◌, ℕ, ◌+◌, List, [], ◌∷◌, Ok, length}
+-- The headline: after any list of edits, queries and legs each report handed out is, byte for byte, the report of the
+-- model that `list` prints, opened anew and run from zero. (Our own.)
+use Rattle.std.specs.Prelude.{◌≡◌, ℕ, ◌+◌, List, [], ◌∷◌, Option, Ok, length}
 use Rattle.gw_meaning.specs.declared.statement.Statement.{Statement}
 use Rattle.gw_meaning.specs.Listing.{Listing}
 use Rattle.gw_lines.specs.Printed.{listed_text}
 use Rattle.gw_lines.specs.Whole.{SpellsModel}
 use Rattle.gw_model.specs.Listed.{listed}
 use Rattle.gw_frame.specs.Renamed.{statements_of}
+use Rattle.gw_touch.specs.declared.edit.Edit.{Edit}
+use Rattle.gw_edit.specs.declared.fault.EditFault.{EditFault}
 use Rattle.gw_edit.specs.Applied.{applied}
 use Rattle.gw_edit.specs.Spelled.{AreSpelled}
 use Rattle.gw_desk.specs.declared.answer.Answer.{Answer}
@@ -30,7 +32,7 @@ pub record IsPrinted (t u : Listing) : Type 0 where
   pub spelled : SpellsModel (listed_text (statements_of t.lines)) statements
   pub opens : u ≡ listed statements t.horizon t.replications t.limit
 
--- a query of a version behind n accepted edits is answered as one that is so of it, run from zero; or out of
+-- a query of a version after n accepted edits is answered as one that is so of it, run from zero; or out of
 -- memory
 abbrev pub IsRight : (Listing → Listing → Type 0) → Listing → ℕ → ℕ → ℕ → Answer → Type 0
 IsRight so t n rep k answers.Memory = Unit {0}
@@ -41,22 +43,34 @@ abbrev pub IsRightPeek : (Listing → Listing → Type 0) → Listing → ℕ �
 IsRightPeek so t n rep k (answers.Unfinished steps) = Unit {0}
 IsRightPeek so t n rep k answer = IsRight so t n rep k answer
 
--- the replies to events, from a version behind n accepted edits on: an accepted edit goes on to its version, a refused
--- one leaves it
-abbrev pub AreRight : (Listing → Listing → Type 0) → Listing → ℕ → List Event → List Reply → Type 0
-AreRight so t n [] [] = Unit {0}
-AreRight so t n [] (reply ∷ others) = ⊥
-AreRight so t n (event ∷ more) [] = ⊥
-AreRight so t n (events.Edit e ∷ more) (replies.Edited m ∷ others) =
-    (u : Listing) × (applied t e ≡ Ok u) × (m ≡ n + 1) × AreRight so u (n + 1) more others
-AreRight so t n (events.Edit e ∷ more) (replies.Refused fault ∷ others) = AreRight so t n more others
-AreRight so t n (events.Edit e ∷ more) (replies.Answered answer ∷ others) = ⊥
-AreRight so t n (events.Peek rep k ∷ more) (replies.Answered answer ∷ others) =
-    IsRightPeek so t n rep k answer × AreRight so t n more others
-AreRight so t n (events.Peek rep k ∷ more) (reply ∷ others) = ⊥
-AreRight so t n (events.Finish rep k ∷ more) (replies.Answered answer ∷ others) =
-    IsRight so t n rep k answer × AreRight so t n more others
-AreRight so t n (events.Finish rep k ∷ more) (reply ∷ others) = ⊥
+-- what workers do, and are replied: no report is handed out to them
+pub data IsOfWorker : Event → Reply → Type 0 where
+  taking : (w rep : ℕ) (start : Option ℕ) → IsOfWorker (events.Take w rep) (replies.Took start)
+  take_refused : (w rep : ℕ) → IsOfWorker (events.Take w rep) replies.Memory
+  working : (w steps made : ℕ) → IsOfWorker (events.Work w steps) (replies.Worked made)
+  posted : (w : ℕ) → IsOfWorker (events.Post w) replies.Posted
+  dropped : (w : ℕ) → IsOfWorker (events.Post w) replies.Dropped
+  post_refused : (w : ℕ) → IsOfWorker (events.Post w) replies.Memory
+  no_worker : (w rep : ℕ) → IsOfWorker (events.Take w rep) replies.Idle
+  no_work : (w steps : ℕ) → IsOfWorker (events.Work w steps) replies.Idle
+  no_post : (w : ℕ) → IsOfWorker (events.Post w) replies.Idle
+
+-- the replies to events, from a version after n accepted edits on: an accepted edit goes on to its version, a refused
+-- one leaves it, and so does all that workers do
+pub data AreRight (so : Listing → Listing → Type 0) : Listing → ℕ → List Event → List Reply → Type 0 where
+  nothing : (t : Listing) (n : ℕ) → AreRight so t n [] []
+  accepted : (t u : Listing) (n m : ℕ) (e : Edit) (more : List Event) (others : List Reply) → applied t e ≡ Ok u →
+      m ≡ n + 1 → AreRight so u m more others → AreRight so t n (events.Edit e ∷ more) (replies.Edited m ∷ others)
+  refused : (t : Listing) (n : ℕ) (e : Edit) (fault : EditFault) (more : List Event) (others : List Reply) →
+      AreRight so t n more others → AreRight so t n (events.Edit e ∷ more) (replies.Refused fault ∷ others)
+  peeked : (t : Listing) (n rep k : ℕ) (answer : Answer) (more : List Event) (others : List Reply) →
+      IsRightPeek so t n rep k answer → AreRight so t n more others →
+      AreRight so t n (events.Peek rep k ∷ more) (replies.Answered answer ∷ others)
+  finished : (t : Listing) (n rep k : ℕ) (answer : Answer) (more : List Event) (others : List Reply) →
+      IsRight so t n rep k answer → AreRight so t n more others →
+      AreRight so t n (events.Finish rep k ∷ more) (replies.Answered answer ∷ others)
+  by_worker : (t : Listing) (n : ℕ) (event : Event) (reply : Reply) (more : List Event) (others : List Reply) →
+      IsOfWorker event reply → AreRight so t n more others → AreRight so t n (event ∷ more) (reply ∷ others)
 
 -- whatever was played of a desk, by the version made anew from its statements
 abbrev pub ReportsAreRight : Type 0

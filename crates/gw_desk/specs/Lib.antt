@@ -14,4 +14,13 @@ pub mod Playing
 pub mod Keeping
 pub mod Lost
 pub mod Headline
+pub mod Legs
+pub mod Fates
+pub mod Surviving
+pub mod Posting
+pub mod Records
+pub mod Ledger
+pub mod Workers
+pub mod Working
+pub mod Texts
 pub use Rattle.gw_record.specs.Tape

@@ -10,7 +10,7 @@ use Rattle.gw_desk.specs.declared.look.Look.{Look}
 use Rattle.gw_desk.specs.declared.look.Look.TheVariants as looks
 use Rattle.gw_desk.specs.Finding.{Point, NoStart, TooLong, verdict}
 
--- n steps decide nothing: they are fewer than the step limit, the run goes on behind them, and at none of their moments
+-- n steps decide nothing: they are fewer than the step limit, the run goes on after them, and at none of their moments
 -- are k STARTs complete
 pub record IsOpen (t : Listing) (seed k n : ℕ) : Type 0 where
   pub below : n < t.limit

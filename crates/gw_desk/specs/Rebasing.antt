@@ -8,7 +8,7 @@ use Rattle.gw_edit.specs.Rebasing.{IsRebased}
 use Rattle.gw_desk.specs.declared.recording.Recording.{Recording}
 use Rattle.gw_desk.specs.Book.{run_in}
 
--- a recording behind an edit of t to u, whose run starts at 0
+-- a recording after an edit of t to u, whose run starts at 0
 pub record IsRebasedRecording (t : Listing) (e : Edit) (u : Listing) (old new : Recording) : Type 0 where
   pub number : new.number ≡ old.number
   pub run : old.run.start ≡ 0 → IsRebased t e u old.number old.run new.run

@@ -6,7 +6,7 @@ use Rattle.gw_desk.specs.declared.answer.Answer.{Answer}
 use Rattle.gw_desk.specs.declared.answer.Answer.TheVariants as answers
 use Rattle.gw_desk.specs.Finding.{Verdict, Point, NoStart, TooLong, verdict}
 
--- a verdict, told of a version behind so many accepted edits
+-- a verdict, told of a version after so many accepted edits
 abbrev pub told : Listing → ℕ → ℕ → ℕ → Verdict → Answer
 told t edits rep k (Point s o) =
     answers.Ready (record { edits = edits; replication = rep; start = k; text = text_of t rep k s o })

@@ -3,7 +3,7 @@ use gw_expr::Row;
 /// A report that is handed out.
 #[derive(Drop)]
 pub struct Report {
-    /// How many edits its version has behind it.
+    /// How many edits its version has after it.
     pub edits: u64,
     pub replication: u64,
     /// The START, from 1, at whose point it was taken.

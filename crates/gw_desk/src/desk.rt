@@ -4,30 +4,41 @@ ghost use Rattle.gw_record.specs.Tape.{Tape};
 ghost use Rattle.gw_desk.specs.Book.{IsBook, IsRunOf, run_in, blank_runs};
 
 use crate::recording::{Recording, blank_runs, run_of};
+use crate::texts::Texts;
 use gw_edit::Edit;
 use gw_model::Version;
 use gw_record::Recorded;
 use gw_scan::Tally;
 use std::alloc::{AllocError, Global};
 use std::marker::Model;
+use std::sync::Arc;
 
 /// A version of a model kept open, with the edits that were accepted on the way to it and the recorded run of each of
 /// its replications.
 #[derive(Drop)]
 pub struct Desk {
+    // The version before the first edit.
+    pub(crate) opening: Version,
     pub(crate) version: Version,
     pub(crate) every: u64,
     pub(crate) edits: Vec<Edit>,
+    // The same edits, for legs, which share them; none before the first leg after an edit.
+    pub(crate) front: Option<Arc<Vec<Edit>>>,
     pub(crate) runs: Vec<Recording>,
     pub(crate) tally: Tally,
+    // Reports that were printed last.
+    pub(crate) texts: Texts,
 }
 
 impl Model for Desk {
+    ghost use Rattle.std.specs.Prelude.{◌≡◌, IfSome, length};
     ghost use Rattle.gw_desk.specs.Book.{Book, IsBook};
+    ghost use Rattle.gw_desk.specs.Texts.{AreTexts};
 
     ghost Value = { Book };
 
     ghost view = { λ d. record {
+      opening = d.opening;
       version = d.version;
       every = d.every;
       edits = d.edits.items;
@@ -36,8 +47,15 @@ impl Model for Desk {
       made = d.tally;
     } };
 
-    ghost invariant = { λ d. IsBook (record
-        { version = d.version; every = d.every; edits = d.edits.items; runs = d.runs.items; made = d.tally }) };
+    ghost invariant = { λ d. IsBook (record {
+      opening = d.opening;
+      version = d.version;
+      every = d.every;
+      edits = d.edits.items;
+      runs = d.runs.items;
+      made = d.tally;
+    }) × IfSome d.front (λ front. front.value.items ≡ d.edits.items) ×
+        AreTexts d.version (length d.edits.items) d.texts };
 }
 
 impl Desk {
@@ -47,6 +65,7 @@ impl Desk {
         requires { 1 ≤ every }
         ensures value { IfOk result (λ d. d ≡
             record {
+              opening = version;
               version = version;
               every = every;
               edits = [];
@@ -57,13 +76,19 @@ impl Desk {
         ensures desk { IfOk result IsBook }
     {
         version.numbered();
+        let _well = version.lines();
+        let opening = version.copy(alloc)?;
         let runs = blank_runs(alloc, version.replications(), every)?;
+        let texts = Texts::new(alloc)?;
         Ok(Desk {
+            opening,
             version,
             every,
             edits: Vec::new(alloc),
+            front: None,
             runs,
             tally: Tally::new(),
+            texts,
         })
     }
 
@@ -101,8 +126,8 @@ impl Desk {
         }
     }
 
-    // What a desk keeps by its type.
-    pub(crate) fn is_book(&self)
+    /// A desk keeps this by its type: a law, which does nothing.
+    pub fn is_book(&self)
         ensures { IsBook self.now }
     {
         let _ = &self.runs;

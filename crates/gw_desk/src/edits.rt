@@ -40,6 +40,7 @@ impl Desk {
         keep_those_of(&mut self.runs, &new);
         self.version = new;
         self.edits.push_reserved(edit);
+        self.front = None;
         Ok(self.edits.len() as u64)
     }
 }

@@ -12,7 +12,7 @@ ghost use Rattle.gw_desk.specs.Finishing.{Finishes, IsMissing};
 use crate::answer::Answer;
 use crate::desk::Desk;
 use crate::look::look_behind;
-use crate::recording::{place_of, run_of};
+use crate::recording::place_of;
 use gw_record::Reach;
 use std::alloc::{AllocError, Global};
 
@@ -64,16 +64,18 @@ impl Desk {
     }
 
     // What stopped the steps on the way to the end of a START that there is, as it is answered.
-    fn told_by(&self, alloc: Global, rep: u64, k: u64, seed: u64, reach: Reach) -> Answer
+    fn told_by(&mut self, alloc: Global, rep: u64, k: u64, seed: u64, reach: Reach) -> Answer
         requires some { 1 ≤ k }
-        requires there { k ≤ starts self.now.version }
-        requires seed { seed_at self.now.version rep ≡ Some seed }
-        requires reached { (r : Tape) → run_in self.now.runs rep ≡ Some r → Reaches self.now.version seed k r reach }
-        ensures { Peeks self.now rep k result }
+        requires there { k ≤ starts self.old.version }
+        requires seed { seed_at self.old.version rep ≡ Some seed }
+        requires reached { (r : Tape) → run_in self.old.runs rep ≡ Some r → Reaches self.old.version seed k r reach }
+        ensures peeks { Peeks self.old rep k result }
+        ensures same { self.new ≡ self.old }
     {
-        match run_of(self.runs.as_slice(), rep) {
-            Some(run) => self.seen(alloc, rep, k, seed, run, look_behind(run, k, reach)),
-            None => unreachable!(),
-        }
+        let Some(run) = self.run(rep) else {
+            unreachable!()
+        };
+        let look = look_behind(run, k, reach);
+        self.seen(alloc, rep, k, seed, look)
     }
 }

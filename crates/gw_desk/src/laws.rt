@@ -19,11 +19,11 @@ pub fn answers_tell()
     ensures no_replication { MissingAreTold }
 {}
 
-/// After any list of edits and queries that [`Desk::play`](crate::Desk::play) played, each report handed out is, byte
-/// for byte, the report of the version made anew from its statements, run from zero. So is every other answer of a
+/// After any list of edits, queries and legs that [`Desk::play`](crate::Desk::play) played, each report handed out is,
+/// byte for byte, the report of the version made anew from its statements, run from zero. So is every other answer of a
 /// query, but that it may be out of memory, and that a peek may say that the recorded steps do not decide. A refused
-/// edit leaves the version. Of a desk whose model was read, each report is that of the model that `list` prints: read
-/// anew, with the same horizon, replications and step limit, and run from zero.
+/// edit leaves the version, and so does all that workers do. Of a desk whose model was read, each report is that of the
+/// model that `list` prints: read anew, with the same horizon, replications and step limit, and run from zero.
 pub fn reports_are_right()
     ensures anew { ReportsAreRight }
     ensures printed { ReportsAreOfPrinted }

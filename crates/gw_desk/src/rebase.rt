@@ -14,7 +14,7 @@ use gw_model::Version;
 use gw_record::Recorded;
 use std::alloc::Global;
 
-// The recorded runs behind an edit of a version, by what the edit touches.
+// The recorded runs after an edit of a version, by what the edit touches.
 pub fn rebase_all(runs: &mut Vec<Recording>, old: &Version, touch: &Touch)
     ensures rebased { (e : Edit) (u : Listing) → touch.now ≡ touching_of old.now e u →
         AreRebased old.now e u runs.old.items runs.new.items }

@@ -370,7 +370,7 @@ said_alike i by t u a b horizon seeds said =
     by.is u b ∙ (ap (λ n. by.made n b (filter_map by.says u.lines)) horizon ∙
     (ap (λ n. by.made t.horizon n (filter_map by.says u.lines)) seeds ∙ (ap (by.made t.horizon a) said ∙ sym (by.is t a))))
 
--- behind the same statements, where what comes first says the same
+-- after the same statements, where what comes first says the same
 said_behind : {X : Type 0} (says : Numbered → Option X) (front xs ys : List Numbered) → filter_map says xs ≡ filter_map says ys →
     filter_map says (front ++ xs) ≡ filter_map says (front ++ ys)
 said_behind says front xs ys h =

@@ -90,7 +90,7 @@ touched_there : (t : Listing) (place : ℕ) (name : List ℕ) (from amount numbe
     splice_probes t place (Some line) (Some (record { number = number; statement = storage_of name amount })) ≡ Amounts name (Some from) (Some amount) ∷ []
 touched_there t place name from amount number line is = rw (is.body_is, is.label_is, same_bytes name) refl
 
--- the units of the storage, where it stands behind what gives none
+-- the units of the storage, where it stands after what gives none
 units_behind : (name : List ℕ) (lines front : List Numbered) (line : Numbered) (behind : List Numbered) (units : ℕ) →
     ((rest : List Numbered) → capacity_in name (front ++ rest) ≡ capacity_in name rest) → defines name line ≡ Some (definitions.Storage units) →
     lines ≡ front ++ line ∷ behind → unwrap_or (capacity_in name lines) 0 ≡ units

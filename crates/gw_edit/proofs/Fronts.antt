@@ -1,4 +1,4 @@
--- Lines behind the same lines in front: what they are asked, they answer alike as far as their rests do.
+-- Lines after the same lines in front: what they are asked, they answer alike as far as their rests do.
 use Rattle.std.proofs.Common.{◌≡◌, ℕ, zero, suc, ◌+◌, ◌<◌, Bool, true, false, cond, List, [], ◌∷◌, ◌++◌, Option, Some, None, is_some, option_and_then, ◌==◌, length, filter, nat_le, refl, ap, sym, subst, ◌∙◌, arith, ⊎_elim}
 use Rattle.std.specs.List.{filter_map, cons_option, slice_get}
 use Rattle.std.proofs.lemmas.Bool.{cases_Bool, leb-false}
@@ -63,13 +63,13 @@ last_none o (line ∷ front) h =
     (elim (is_block line) as (λ b. is_some (cond b (Some line.number) (first_block front)) ≡ false → last_block (cond b (Some line.number) o) front ≡ o)
     [ true ↦ λ none. absurd cc | false ↦ λ none. last_none o front none ]) h
 
--- a line in front with no block behind it there
+-- a line in front with no block after it there
 last_step : (b : Bool) (n k : ℕ) (f g x y : Option ℕ) → is_at (cond b (Some n) None) k ≡ false → x ≡ y →
     cond (n == k) (cond b f None) x ≡ cond (n == k) (cond b g None) y
 last_step true n k f g x y mine rest = subst (λ (c : Bool). cond c f x ≡ cond c g y) (sym mine) rest
 last_step false n k f g x y mine rest = elim (n == k) as (λ c. cond c None x ≡ cond c None y) [ true ↦ refl | false ↦ rest ]
 
--- the block with this number is not the last one in front: a block comes behind it there
+-- the block with this number is not the last one in front: a block comes after it there
 pub after_in_front : (front xs ys : List Numbered) (k : ℕ) → is_at (last_block None front) k ≡ false → after_in xs k ≡ after_in ys k →
     after_in (front ++ xs) k ≡ after_in (front ++ ys) k
 after_in_front [] xs ys k last h = h
@@ -96,7 +96,7 @@ pub commands_behind : (front xs ys : List Numbered) → filter_map command_of xs
 commands_behind front xs ys h =
     filter_map-append command_of front xs ∙ ap (λ cs. filter_map command_of front ++ cs) h ∙ sym (filter_map-append command_of front ys)
 
--- the first of a list, whatever comes behind
+-- the first of a list, whatever comes after
 get_front : {X : Type 0} (cs xs ys : List X) (j : ℕ) → j < length cs → slice_get (cs ++ xs) j ≡ slice_get (cs ++ ys) j
 get_front [] xs ys j less = absurd (omega arith)
 get_front (c ∷ cs) xs ys zero less = refl
@@ -129,7 +129,7 @@ commands_front front xs ys j h =
     rw (filter_map-append command_of front xs, filter_map-append command_of front ys)
     (nth_front cs (filter_map command_of xs) (filter_map command_of ys) j less)
 
--- what is no block has no block behind it
+-- what is no block has no block after it
 pub after_none : (lines : List Numbered) (k : ℕ) → block_in lines k ≡ None → after_in lines k ≡ None
 after_none [] k h = refl
 after_none (line ∷ lines) k h =

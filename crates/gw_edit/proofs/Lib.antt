@@ -1,4 +1,5 @@
 pub mod Checking
+pub mod LeadLaws
 pub mod Fronts
 pub mod ByLines
 pub mod LineLaws

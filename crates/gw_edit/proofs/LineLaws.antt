@@ -37,7 +37,7 @@ not_behind : (o : Option ℕ) (k : ℕ) → probed_at (behind o) (items.After k)
 not_behind None k h = refl
 not_behind (Some n) k h = other_way k n h
 
--- behind lines without a number it is not there either
+-- after lines without a number it is not there either
 absent_behind : (front back : List Numbered) (k : ℕ) → line_in (front ++ back) k ≡ None → line_in back k ≡ None
 absent_behind [] back k none = none
 absent_behind (x ∷ front) back k none = absent_behind front back k ((absent_first x (front ++ back) k none).1)

@@ -24,7 +24,7 @@ use Rattle.gw_edit.proofs.Made.{deleted_at, inserted_at, IsSpliced, IsLeft, made
 use Rattle.gw_edit.proofs.Untouching.{untouched_alike}
 use Rattle.gw_edit.proofs.RebaseLaws.{none_touched}
 
--- an edited version: what stays behind the place that the edit is of, and that its statements are numbered
+-- an edited version: what stays after the place that the edit is of, and that its statements are numbered
 pub record IsEdited (t u : Listing) (front deleted inserted : List Numbered) : Type 0 where
   pub back : List Numbered
   pub splice : IsSplice t u front deleted inserted back
@@ -34,7 +34,7 @@ at_most_one : (o : Option Numbered) → length (option_to_list o) ≤ 1
 at_most_one None = omega arith
 at_most_one (Some line) = omega arith
 
--- the statements before a splice and behind it
+-- the statements before a splice and after it
 old_parts : (lines : List Numbered) (place : ℕ) (deletes : Bool) → 1 ≤ place → (deletes ≡ true → place ≤ length lines) →
     lines ≡ take (place - 1) lines ++ (option_to_list (deleted_at lines place deletes) ++ drop (cond deletes place (place - 1)) lines)
 old_parts lines place false least there = sym (take-append-drop (place - 1) lines)

@@ -1,4 +1,4 @@
--- What is kept of a recorded run behind an edit is the run of the edited version.
+-- What is kept of a recorded run after an edit is the run of the edited version.
 use Rattle.std.proofs.Common.{◌≡◌, ℕ, ◌<◌, ◌≤◌, Bool, true, false, List, [], ◌∷◌, ◌||◌, Option, Some, None, Ok, refl, sym, ap, ⊎_elim, arith}
 use mathlib.Core.Bool.{true≢false}
 use Rattle.std.specs.List.{list_any, AllByRecursion}

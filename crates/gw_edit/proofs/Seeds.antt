@@ -5,7 +5,7 @@ use Rattle.gw_meaning.specs.declared.statement.Replication.{Replication}
 use Rattle.gw_meaning.specs.Listing.{seed_in}
 use Rattle.gw_edit.specs.Applied.{reseeded, without_number}
 
--- one is added behind
+-- one is added after
 pub seed_in_front : (rs more : List Replication) (number seed : ℕ) → seed_in rs number ≡ Some seed → seed_in (rs ++ more) number ≡ Some seed
 seed_in_front [] more number seed h = absurd cc
 seed_in_front (r ∷ rs) more number seed h =

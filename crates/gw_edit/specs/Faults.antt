@@ -8,7 +8,7 @@ use Rattle.gw_model.specs.declared.fault.ModelFault.TheVariants as models
 use Rattle.gw_edit.specs.declared.fault.EditFault.{EditFault}
 use Rattle.gw_edit.specs.declared.fault.EditFault.TheVariants.{NoSuchPlace, BadStatement, BadModel, NoSuchReplication, ReplicationTwice, NoSuchStorage, Memory, HistoryFull}
 
--- the refusal's number, which a report prints behind an E
+-- the refusal's number, which a report prints after an E
 abbrev pub number_of : EditFault → ℕ
 number_of NoSuchPlace = 1
 number_of (BadStatement fault) = 2

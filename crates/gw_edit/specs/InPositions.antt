@@ -1,4 +1,4 @@
--- The frame law in positions, of an edit: behind one that touches no step of a run, the run is the old one with its
+-- The frame law in positions, of an edit: after one that touches no step of a run, the run is the old one with its
 -- positions moved. (Our own.)
 use Rattle.std.specs.Prelude.{ℕ, ◌≡◌, ◌<◌, List, [], Option, Some, None, Ok, map, option_to_list}
 use Rattle.gw_meaning.specs.declared.statement.Numbered.{Numbered}
@@ -44,7 +44,7 @@ inserted_of t (edits.Change place text) u = option_to_list (nth u.lines place)
 inserted_of t (edits.Capacity name amount) u = line_there u (storage_place name t)
 inserted_of t e u = []
 
--- how positions move: behind the front they go back by a deleted block, and on by an inserted one
+-- how positions move: after the front they go back by a deleted block, and on by an inserted one
 abbrev pub position_move : Listing → Edit → Listing → ℕ → ℕ
 position_move t e u = shifted (front_of t e) (deleted_of t e) (inserted_of t e u)
 

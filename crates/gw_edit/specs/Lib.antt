@@ -1,5 +1,6 @@
 pub mod Faults
 pub mod Applied
+pub mod Leading
 pub mod Outcomes
 pub mod Rebasing
 pub mod Untouched

@@ -128,7 +128,7 @@ pub record SeedMakes (t : Listing) (number seed : ℕ) : Type 0 where
       ChangesTo (IsReseeded t number seed) (applied t (edits.Seed number seed))
   pub none : seed_at t number ≡ None → applied t (edits.Seed number seed) ≡ Err NoSuchReplication
 
--- a replication is added behind the others
+-- a replication is added after the others
 pub record IsAdded (t : Listing) (number seed : ℕ) (u : Listing) : Type 0 where
   pub replications : u.replications ≡ t.replications ++ record { number = number; seed = seed } ∷ []
   pub rest : LeavesModel t u

@@ -9,7 +9,7 @@ use Rattle.gw_touch.specs.Touching.{touch_of}
 use Rattle.gw_touch.specs.Touched.{touched_step, IsKeptOf}
 use Rattle.gw_edit.specs.Applied.{applied}
 
--- the run of a replication behind an edit of t to u
+-- the run of a replication after an edit of t to u
 pub record IsRebased (t : Listing) (e : Edit) (u : Listing) (replication : ℕ) (old new : Tape) : Type 0 where
   pub records : (a b : ℕ) → applied t e ≡ Ok u → seed_at t replication ≡ Some a → seed_at u replication ≡ Some b →
       Records t a old → Records u b new

@@ -37,7 +37,7 @@ pub enum EditFault {
 }
 
 impl EditFault {
-    /// The fault's number, 1 to 8, which a report prints behind an E.
+    /// The fault's number, 1 to 8, which a report prints after an E.
     pub fn number(self) -> u8
         ensures { result ≡ number_of self }
     {

@@ -30,7 +30,7 @@ pub fn capacity_touches_what_differs()
     ensures { CapacityTouchesWhatDiffers }
 {}
 
-/// The frame law in positions: behind an edit that touches no step below n, the run of n steps is the same; told in
+/// The frame law in positions: after an edit that touches no step below n, the run of n steps is the same; told in
 /// positions, it is the old one with its positions moved, and its steps read the old items moved.
 pub fn edit_in_positions()
     ensures { EditInPositions }

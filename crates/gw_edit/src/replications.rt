@@ -21,7 +21,7 @@ pub fn reseeded(
         .collect(alloc)
 }
 
-/// The replications and one more behind them.
+/// The replications and one more after them.
 pub fn with_replication(
     alloc: Global,
     version: &Version,

@@ -38,7 +38,7 @@ within bs i full h =
 pub small : (i : ℕ) → i % 4096 < 4096
 small i = mod_below i 4096 (omega arith)
 
--- it and so many behind it, as far as the block goes
+-- it and so many after it, as far as the block goes
 pub value : (bs : List Block) (i k : ℕ) (b : Block) → AreFull (map block_values bs) → i < length (in_blocks bs) → b ≡ get_or bs (i / 4096) b →
     i % 4096 + k < 4096 → slice_get (in_blocks bs) (i + k) ≡ slice_get (block_values b) (i % 4096 + k)
 value bs i k b full h there below =

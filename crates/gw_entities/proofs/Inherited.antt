@@ -46,7 +46,7 @@ module _ {V : Type 0} where
   all_above n [] h = refl
   all_above n (e ∷ es) h = ap (λ b. cond b (e.1 ∷ all_of n es) (all_of n es)) (above_other n e.0 h.0) ∙ all_above n es h.1
 
-  -- those in front of an index are all where all behind it are of greater numbers
+  -- those in front of an index are all where all after it are of greater numbers
   pub all_there : (n : ℕ) (es : List (Entry V)) (i : ℕ) → AreFrom (suc n) (drop i es) → all_of n (take i es) ≡ all_of n es
   all_there n es i above =
       let parts : all_of n (take i es ++ drop i es) ≡ all_of n (take i es) ++ all_of n (drop i es) = all_append n (take i es) (drop i es) in

@@ -248,7 +248,7 @@ module _ {V : Type 0} where
       ◌≡◌ {A = Entry V} (n, (at_or ks j, v)) (n, (k, v))
   entry_read ks n j k v at = ap (λ (q : Key). (n, (q, v))) (key_read ks j k at)
 
-  -- an item that is set in place, and one that comes behind the others of its transaction
+  -- an item that is set in place, and one that comes after the others of its transaction
   pub set_own : (ks : List Key) (is js : List (Item V)) (i n j : ℕ) (k : Key) (v : V) → AreOwn ks is → StandsAt n k (map (entry_of ks) is) i →
       slice_get ks j ≡ Some k → j < length ks → js ≡ set is i (record { number = n; key = j; value = v }) →
       AreOwn ks js × (map (entry_of ks) js ≡ with_own (map (entry_of ks) is) n k v)

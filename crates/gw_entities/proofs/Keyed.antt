@@ -110,7 +110,7 @@ module _ {Own : Type 0} where
       subst (IsDistinct key_eq) (keys_pushed (zip ks cs) key own ∙ ap (λ (qs : List Key). qs ++ key ∷ []) (keys_beside ks cs long))
       (apart_pushed (zip ks cs) key own (subst (IsDistinct key_eq) (sym (keys_beside ks cs long)) apart) none)
 
-  -- the value that is there already, and one value behind another
+  -- the value that is there already, and one value after another
   pub with_same : (es : List (Key × Own)) (key : Key) (own : Own) → value_of es key ≡ Some own → with_value es key own ≡ es
   with_same [] key own h = absurd cc
   with_same (e ∷ es) key own h = go (key_eq key e.0) h (with_same es key own) where

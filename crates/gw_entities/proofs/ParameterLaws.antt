@@ -281,7 +281,7 @@ not_first : (a b : Bool) → (a && b) ≡ false → b ≡ true → a ≡ false
 not_first true b e f = absurd (let clash : true ≡ false = sym f ∙ e in cc)
 not_first false b e f = refl
 
--- an entry that stays, with one that is set behind it
+-- an entry that stays, with one that is set after it
 mine_stays : (q n : ℕ) (k : Key) (v : ℤ) (e : Entry ℤ) (es : List (Entry ℤ)) → is_own n k e ≡ false →
     mine q (with_own es n k v) ≡ cond (nat_eq q n) (with_value (mine n es) k v) (mine q es) →
     mine q (e ∷ with_own es n k v) ≡ cond (nat_eq q n) (with_value (mine n (e ∷ es)) k v) (mine q (e ∷ es))

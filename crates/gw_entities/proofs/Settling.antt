@@ -1,4 +1,4 @@
--- Keys that are settled, and those behind them.
+-- Keys that are settled, and those after them.
 use Rattle.std.proofs.Common.{◌≡◌, ℕ, zero, suc, ◌+◌, ◌<◌, ◌≤◌, ◌^◌, ◌-◌, min, Bool, true, false, cond, ◌||◌, List, [], ◌∷◌, ◌++◌, length, take, Some, slice_get, refl, sym, ap, ◌∙◌, arith}
 use Rattle.std.specs.List.{IsDistinct, AllByRecursion, list_any}
 use Rattle.std.proofs.lemmas.Grind.{common_steps}
@@ -33,7 +33,7 @@ take_behind (x ∷ xs) ys i =
 pub stays : (xs ys : List Key) (i : ℕ) (k : Key) → slice_get xs i ≡ Some k → xs ++ ys ≡ insert_key key_eq (xs ++ ys) k
 stays xs ys i k at = kept_key (xs ++ ys) i k (get_in_front xs ys i k at)
 
--- one that is not comes behind all
+-- one that is not comes after all
 none_in : (b c : Bool) → (b || c) ≡ false → c ≡ false
 none_in true c e = absurd cc
 none_in false c e = e

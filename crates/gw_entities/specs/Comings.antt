@@ -24,7 +24,7 @@ abbrev pub AreOnce : List (Key × ℕ) → Type 0
 AreOnce [] = Unit {0}
 AreOnce (c ∷ cs) = (came cs c.0 c.1 ≡ false) × AreOnce cs
 
--- with a coming of a transaction to a queue: behind its others, and once
+-- with a coming of a transaction to a queue: after its others, and once
 abbrev pub with_coming : List (Key × ℕ) → Key → ℕ → List (Key × ℕ)
 with_coming [] key number = (key, number) ∷ []
 with_coming (c ∷ cs) key number =

@@ -14,11 +14,11 @@ pub record KeyList : Type 0 where
 -- the keys, whether or not copies share them
 abbrev pub keys_in : Form → List Key
 keys_in (Nothing alloc) = []
-keys_in (Shared shared) = shared.value.value.keys
-keys_in (Own own) = own.value.keys
+keys_in (Shared shared) = shared.value.value.set.keys
+keys_in (Own own) = own.value.set.keys
 
 -- those that copies share take no further one
 abbrev pub room_in : Form → ℕ
 room_in (Nothing alloc) = 0
 room_in (Shared shared) = 0
-room_in (Own own) = spare own.value
+room_in (Own own) = spare own.value.set

@@ -32,7 +32,7 @@ pub record Change : Type 0 where
   pub content : ℕ
   pub clock : ℕ
 
--- the course behind changes
+-- the course after changes
 abbrev pub behind : Course → List Change → Course
 behind course [] = course
 behind course (c ∷ cs) = behind (changed c.content c.clock course) cs

@@ -29,7 +29,7 @@ module _ {V : Type 0} where
   own_of [] number key = None
   own_of (e ∷ es) number key = if is_own number key e then Some e.1.1 else own_of es number key
 
-  -- with a value set: in place where the transaction has one by this key, else behind its others
+  -- with a value set: in place where the transaction has one by this key, else after its others
   abbrev pub with_own : List (Entry V) → ℕ → Key → V → List (Entry V)
   with_own [] number key value = (number, (key, value)) ∷ []
   with_own (e ∷ es) number key value =

@@ -10,7 +10,7 @@ module _ {V : Type 0} where
   abbrev pub value_of : List (Key × V) → Key → Option V
   value_of entries key = lookup (key_eq key) entries
 
-  -- the entries with the value of a key set: in place where it has one, else behind the others
+  -- the entries with the value of a key set: in place where it has one, else after the others
   abbrev pub with_value : List (Key × V) → Key → V → List (Key × V)
   with_value [] key value = (key, value) ∷ []
   with_value (e ∷ es) key value = if key_eq key e.0 then (e.0, value) ∷ es else e ∷ with_value es key value

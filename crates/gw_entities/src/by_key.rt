@@ -61,7 +61,7 @@ impl<V: Copy> ByKey<V> {
         Some(*self.values.at(index))
     }
 
-    /// Sets the value of an entity: in place where it has one, else behind the others. Where memory is refused, nothing
+    /// Sets the value of an entity: in place where it has one, else after the others. Where memory is refused, nothing
     /// changes.
     pub fn put(&mut self, key: &Key, value: V) -> Result<(), AllocError>
         ensures ok { OnOk result (self.new ≡ with_value self.old key.now value) }
@@ -75,7 +75,7 @@ impl<V: Copy> ByKey<V> {
         Ok(())
     }
 
-    // An entity that has no value comes behind the others.
+    // An entity that has no value comes after the others.
     #[cold]
     #[inline(never)]
     fn push(&mut self, key: &Key, value: V) -> Result<(), AllocError>

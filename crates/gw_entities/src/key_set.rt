@@ -3,9 +3,9 @@ ghost use Rattle.std.specs.List.{list_any, IsDistinct};
 ghost use Rattle.indexmap.specs.IndexSet.{insert_key};
 ghost use Rattle.gw_names.specs.Keys.{key_eq};
 
+use crate::key_table::KeyTable;
 use crate::shared_keys::SharedKeys;
 use gw_names::Key;
-use indexmap::IndexSet;
 use std::alloc::{AllocError, Global};
 use std::marker::Model;
 
@@ -21,7 +21,7 @@ const LIMIT: usize = 9_223_372_036_854_775_807;
 pub struct KeySet {
     // Those that copies share for long: none comes to them.
     settled: SharedKeys,
-    // Those that came behind the settled ones.
+    // Those that came after the settled ones.
     recent: SharedKeys,
 }
 
@@ -54,7 +54,7 @@ impl KeySet {
     }
 
     /// Where a key lies, if it is there.
-    #[inline(always)]
+    #[inline(never)]
     pub fn place(&self, key: &Key) -> Option<usize>
         ensures there { IfSome result (λ i. slice_get self.now.keys i ≡ Some key.now) }
         ensures within { IfSome result (λ i. i < length self.now.keys) }
@@ -106,7 +106,7 @@ impl KeySet {
         self.recent.reserve()
     }
 
-    /// A key comes behind the others, unless it is there.
+    /// A key comes after the others, unless it is there.
     pub fn insert(&mut self, key: Key)
         requires { 0 < self.old.room }
         ensures keys { self.new.keys ≡ insert_key key_eq self.old.keys key }
@@ -118,7 +118,7 @@ impl KeySet {
         }
     }
 
-    /// The place of a key, which comes behind the others where it is not there. Where memory is refused, none comes.
+    /// The place of a key, which comes after the others where it is not there. Where memory is refused, none comes.
     pub fn add(&mut self, key: &Key) -> Result<usize, AllocError>
         ensures there { IfOk result (λ i. slice_get self.new.keys i ≡ Some key.now) }
         ensures within { IfOk result (λ i. i < length self.new.keys) }
@@ -131,7 +131,7 @@ impl KeySet {
         }
     }
 
-    // A key that is not there comes behind the others.
+    // A key that is not there comes after the others.
     #[cold]
     fn push(&mut self, key: &Key) -> Result<usize, AllocError>
         requires { list_any (key_eq key.now) self.old.keys ≡ false }
@@ -174,14 +174,15 @@ impl KeySet {
         Ok(())
     }
 
-    // All keys in one set.
-    fn all(&self) -> Result<IndexSet<Key>, AllocError>
-        ensures { IfOk result (λ s. s.keys ≡ self.now.keys) }
+    // All keys in one table.
+    fn all(&self) -> Result<KeyTable, AllocError>
+        ensures { IfOk result (λ t. t.set.keys ≡ self.now.keys) }
     {
-        let mut all = self.settled.set()?;
+        let mut all = self.settled.table()?;
         for index in 0..self.recent.len() {
             let key = self.recent.at(index).clone()?;
-            all.insert(key)?;
+            all.reserve()?;
+            all.insert(key);
         }
         Ok(all)
     }

@@ -11,6 +11,7 @@ mod comings;
 mod counted;
 mod facility;
 mod key_set;
+mod key_table;
 mod laws;
 mod level;
 mod own_list;

@@ -3,8 +3,8 @@ ghost use Rattle.std.specs.List.{list_any, IsDistinct};
 ghost use Rattle.indexmap.specs.IndexSet.{insert_key};
 ghost use Rattle.gw_names.specs.Keys.{key_eq};
 
+use crate::key_table::KeyTable;
 use gw_names::Key;
-use indexmap::IndexSet;
 use std::alloc::{AllocError, Global};
 use std::marker::Model;
 use std::mem;
@@ -21,8 +21,8 @@ pub struct SharedKeys {
 pub enum Form {
     // No keys: this takes the least, and stands here while keys are moved.
     Nothing(Global),
-    Shared(Arc<Box<IndexSet<Key>>>),
-    Own(Box<IndexSet<Key>>),
+    Shared(Arc<Box<KeyTable>>),
+    Own(Box<KeyTable>),
 }
 
 impl Model for SharedKeys {
@@ -43,12 +43,12 @@ impl SharedKeys {
         }
     }
 
-    // Those of a set.
-    pub fn of(set: Box<IndexSet<Key>>) -> SharedKeys
-        ensures { result.keys ≡ set.value.keys }
+    // Those of a table.
+    pub fn of(table: Box<KeyTable>) -> SharedKeys
+        ensures { result.keys ≡ table.value.set.keys }
     {
         SharedKeys {
-            form: Form::Own(set),
+            form: Form::Own(table),
         }
     }
 
@@ -61,8 +61,8 @@ impl SharedKeys {
     {
         match &self.form {
             Form::Nothing(_) => None,
-            Form::Shared(shared) => place_in(shared, key),
-            Form::Own(own) => place_in(own, key),
+            Form::Shared(shared) => shared.place(key),
+            Form::Own(own) => own.place(key),
         }
     }
 
@@ -87,8 +87,8 @@ impl SharedKeys {
     {
         match &self.form {
             Form::Nothing(_) => unreachable!(),
-            Form::Shared(shared) => &shared[index],
-            Form::Own(own) => &own[index],
+            Form::Shared(shared) => shared.at(index),
+            Form::Own(own) => own.at(index),
         }
     }
 
@@ -96,19 +96,19 @@ impl SharedKeys {
     pub fn allocator(&self) -> Global {
         match &self.form {
             Form::Nothing(alloc) => *alloc,
-            Form::Shared(shared) => *shared.allocator(),
-            Form::Own(own) => *own.allocator(),
+            Form::Shared(shared) => shared.allocator(),
+            Form::Own(own) => own.allocator(),
         }
     }
 
-    // A set of the same keys that nobody shares.
-    pub fn set(&self) -> Result<IndexSet<Key>, AllocError>
-        ensures { IfOk result (λ s. s.keys ≡ self.now.keys) }
+    // A table of the same keys that nobody shares.
+    pub fn table(&self) -> Result<KeyTable, AllocError>
+        ensures { IfOk result (λ t. t.set.keys ≡ self.now.keys) }
     {
         match &self.form {
-            Form::Nothing(alloc) => Ok(IndexSet::new(*alloc)),
-            Form::Shared(shared) => copied(shared),
-            Form::Own(own) => copied(own),
+            Form::Nothing(alloc) => Ok(KeyTable::new(*alloc)),
+            Form::Shared(shared) => shared.copy(),
+            Form::Own(own) => own.copy(),
         }
     }
 
@@ -120,16 +120,16 @@ impl SharedKeys {
         ensures room { self.old.room ≤ self.new.room }
     {
         if let Form::Own(own) = &mut self.form {
-            return own.reserve(1);
+            return own.reserve();
         }
-        let mut set = self.set()?;
-        set.reserve(1)?;
-        let own = Box::new(self.allocator(), set)?;
+        let mut table = self.table()?;
+        table.reserve()?;
+        let own = Box::new(self.allocator(), table)?;
         self.form = Form::Own(own);
         Ok(())
     }
 
-    // A key comes behind the others, unless it is there.
+    // A key comes after the others, unless it is there.
     pub fn insert(&mut self, key: Key)
         requires { 0 < self.old.room }
         ensures keys { self.new.keys ≡ insert_key key_eq self.old.keys key }
@@ -138,10 +138,7 @@ impl SharedKeys {
         let Form::Own(own) = &mut self.form else {
             unreachable!()
         };
-        match own.insert(key) {
-            Ok(_) => (),
-            Err(_) => unreachable!(),
-        }
+        own.insert(key);
     }
 
     // Copies share the keys from now on.
@@ -176,30 +173,10 @@ impl SharedKeys {
             Form::Nothing(alloc) => Form::Nothing(*alloc),
             Form::Shared(shared) => Form::Shared(Arc::try_clone(shared)?),
             Form::Own(own) => {
-                let set = copied(own)?;
-                Form::Own(Box::new(*own.allocator(), set)?)
+                let table = own.copy()?;
+                Form::Own(Box::new(own.allocator(), table)?)
             }
         };
         Ok(SharedKeys { form })
     }
-}
-
-// Where a key lies in a set, if it is there.
-#[inline(always)]
-fn place_in(set: &IndexSet<Key>, key: &Key) -> Option<usize>
-    ensures there { IfSome result (λ i. slice_get set.now.keys i ≡ Some key.now) }
-    ensures within { IfSome result (λ i. i < length set.now.keys) }
-    ensures none { IfNone result (list_any (key_eq key.now) set.now.keys ≡ false) }
-{
-    match set.get_full(key) {
-        Some((index, _)) => Some(index),
-        None => None,
-    }
-}
-
-// A set of the same keys.
-fn copied(set: &IndexSet<Key>) -> Result<IndexSet<Key>, AllocError>
-    ensures { IfOk result (λ s. s.keys ≡ set.now.keys) }
-{
-    set.clone()
 }

@@ -67,7 +67,7 @@ impl Tables {
         self.keys.place(key)
     }
 
-    /// One more value of a table comes behind its others. Where memory is refused, none comes.
+    /// One more value of a table comes after its others. Where memory is refused, none comes.
     pub fn add(&mut self, key: &Key, value: Val) -> Result<(), AllocError>
         ensures ok { OnOk result (self.new ≡
             with_value self.old key.now (unwrap_or (value_of self.old key.now) [] ++ value ∷ [])) }

@@ -21,7 +21,7 @@ pub struct Values {
     blocks: Vec<Block>,
     // How many values are in the blocks.
     settled: usize,
-    // The values behind them.
+    // The values after them.
     last: SharedList<Val>,
 }
 
@@ -76,7 +76,7 @@ impl Values {
         run
     }
 
-    // One more comes behind the others. Where memory is refused, none comes.
+    // One more comes after the others. Where memory is refused, none comes.
     pub fn push(&mut self, value: Val) -> Result<(), AllocError>
         ensures ok { OnOk result (self.new ≡ self.old ++ value ∷ []) }
         ensures err { OnErr result (self.new ≡ self.old) }

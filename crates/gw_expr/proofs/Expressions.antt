@@ -18,13 +18,13 @@ then_yields (Stops stop) = refl
 then_yields (Wants q k) = simp (λ (x : Reply q). then_yields (k x))
 
 module _ (defined : Definitions) where
-  -- parts, and others behind them
+  -- parts, and others after them
   pub parts_then : (ts us : List Token) (values : List ℤ) → after_tokens defined (ts ++ us) values ≡
       (after_tokens defined ts values ⟫ (λ more. after_tokens defined us more))
   parts_then [] us values = refl
   parts_then (t ∷ ts) us values = simp (then_assoc, parts_then ts us)
 
-  -- an expression in postfix order, and the rest behind it
+  -- an expression in postfix order, and the rest after it
   expression_then : (e : Expression) (us : List Token) (values : List ℤ) →
       after_tokens defined (postfix e ++ us) values ≡ (value_of_expression defined e ⟫ (λ v. after_tokens defined us (v ∷ values)))
   expression_then (Single atom) us values = simp then_assoc

@@ -1,4 +1,4 @@
--- What the parts of an expression come to, one behind the other.
+-- What the parts of an expression come to, one after the other.
 use Rattle.std.proofs.Common.{◌≡◌, ℕ, ◌+◌, ◌<◌, ◌≤◌, ℤ, List, ◌∷◌, take, drop, get_or, length, Result, Ok, Err}
 use Rattle.std.proofs.lemmas.List.{take_more, drop_more, take_all, take-append-drop}
 use Rattle.gw_expr.specs.declared.atom.Atom.{Atom}
@@ -29,7 +29,7 @@ pub record HaveLeft {W : Type 0} (says : (q : Question) → Reply q → Type 0) 
 
 module _ {W : Type 0} {says : (q : Question) → Reply q → Type 0} {replies : (q : Question) → W → Result (Reply q) Halt → W → Type 0}
     {defined : Definitions} {ts : List Token} {few values : List ℤ} {xs ys : W} {i : ℕ} (left : HaveLeft says replies defined ts few xs i values ys) where
-  -- what those behind them come to is what all come to
+  -- what those after them come to is what all come to
   pub rest_goes : {r : Result ℤ Halt} {zs : W} → Evaluates says replies (after_tokens defined (drop i ts) values ⟫ last_value) r ys zs →
       Evaluates says replies (after_tokens defined ts few ⟫ last_value) r xs zs
   rest_goes h = rw (← take-append-drop i ts, parts_then, then_assoc) (then_goes _ left.so_far h)

@@ -1,4 +1,4 @@
--- Evaluations one behind the other, and the exit of a function that evaluates.
+-- Evaluations one after the other, and the exit of a function that evaluates.
 use Rattle.std.proofs.Common.{◌≡◌, Result, Ok, Err, IsErrAnd, ap}
 use Rattle.gw_expr.specs.declared.halt.Halt.{Halt}
 use Rattle.gw_expr.specs.declared.halt.End.TheVariants as ends

@@ -12,7 +12,7 @@ pub data Expression : Type 0 where
   Opposite : Expression → Expression
   Both : Operator → Expression → Expression → Expression
 
--- its parts in postfix order: operands from left to right, and what is done with them behind them
+-- its parts in postfix order: operands from left to right, and what is done with them after them
 abbrev pub postfix : Expression → List Token
 postfix (Single atom) = tokens.Value atom ∷ []
 postfix (Opposite e) = postfix e ++ tokens.Negated ∷ []

@@ -9,7 +9,7 @@ use Rattle.gw_expr.specs.declared.function.Point.{Point}
 use Rattle.gw_expr.specs.declared.function.Function.{Function}
 use Rattle.gw_expr.specs.declared.function.Neighbours.{Neighbours}
 
--- the points on the two sides of an argument, behind one that is below it: the first that is not below it, and the one
+-- the points on the two sides of an argument, after one that is below it: the first that is not below it, and the one
 -- before that
 abbrev pub sides : Option Point → List Point → ℤ → Neighbours
 sides before [] x = record { before = before; next = None }

@@ -3,7 +3,7 @@ use Rattle.std.specs.Prelude.{ℕ}
 use Rattle.gw_expr.specs.declared.stop.Stop.{Stop}
 use Rattle.gw_expr.specs.declared.stop.Stop.TheVariants.{NegativeTime, NotOwner, LeaveTooMany, DepartTooMany, NoParameter, ZeroDivisor, Range, NoNextBlock, TooManyTransactions, VariableDepth, BadCount, TooManyUnits}
 
--- the number that a report prints behind an X
+-- the number that a report prints after an X
 abbrev pub number_of : Stop → ℕ
 number_of NegativeTime = 1
 number_of NotOwner = 2

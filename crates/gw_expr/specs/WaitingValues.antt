@@ -11,7 +11,7 @@ abbrev pub last_of : List ℤ → Option ℤ
 last_of [] = None
 last_of (v ∷ values) = Some v
 
--- the last two, the last one behind, if two wait
+-- the last two, the last one after, if two wait
 abbrev pub last_two : List ℤ → Option (ℤ × ℤ)
 last_two [] = None
 last_two (b ∷ []) = None

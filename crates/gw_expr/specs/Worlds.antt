@@ -21,7 +21,7 @@ abbrev pub with_reply : {A : Type 0} → A → Result (Unit {0}) Halt → Result
 with_reply reply (Ok noted) = Ok reply
 with_reply reply (Err fault) = Err fault
 
--- an evaluation, with the world before and behind it, came to this result: each of its questions got a reply that the
+-- an evaluation, with the world before and after it, came to this result: each of its questions got a reply that the
 -- definitions say and the world may give, up to the first that got none. A refused growth alone leaves the rest open
 pub data Evaluates {W : Type 0} (says : (q : Question) → Reply q → Type 0)
     (replies : (q : Question) → W → Result (Reply q) Halt → W → Type 0) {A : Type 0}
@@ -41,7 +41,7 @@ Comes p (Ok a) = p ≡ Yields a
 Comes p (Err (halts.End (ends.Error stop))) = p ≡ Stops stop
 Comes p (Err halt) = ⊥
 
--- the result of a function that changes a value in place, with the value that stands there behind it
+-- the result of a function that changes a value in place, with the value that stands there after it
 abbrev pub in_place : {A : Type 0} → Result (Unit {0}) Halt → A → Result A Halt
 in_place (Ok done) a = Ok a
 in_place (Err fault) a = Err fault

@@ -96,7 +96,7 @@ impl FewValues {
         Ok(())
     }
 
-    // The last two values, the last one behind, if two wait.
+    // The last two values, the last one after, if two wait.
     #[inline(always)]
     fn last_two(&self) -> Option<(Val, Val)>
         ensures { result ≡ last_two self.now }

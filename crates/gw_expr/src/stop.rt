@@ -45,7 +45,7 @@ pub enum Stop {
 }
 
 impl Stop {
-    /// The stop's number, 1 to 12, which a report prints behind an X.
+    /// The stop's number, 1 to 12, which a report prints after an X.
     pub fn number(self) -> u8
         ensures { result ≡ number_of self }
     {

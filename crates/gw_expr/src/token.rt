@@ -23,7 +23,7 @@ pub enum Operator {
     Minus,
 }
 
-/// A part of an expression in postfix order: an operator stands behind its operands.
+/// A part of an expression in postfix order: an operator stands after its operands.
 #[derive(Clone, Drop, PartialEq, Eq)]
 pub enum Token {
     /// A value.

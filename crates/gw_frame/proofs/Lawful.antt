@@ -43,7 +43,7 @@ pub record ProgLawful {A B : Type 0} (t : Listing) (seed : ℕ) (move : ℕ → 
   pub follows : (u : Listing) (new_seed : ℕ) → IsAnsweredMoved move t seed u new_seed → result_of u new_seed q ≡ result_with f (result_of t seed p)
 
 -- the same of evaluations, from any streams: what p gives has the property Q, each item that it reads the property I,
--- it reads the seed just where a stream draws first, and both have the same streams behind; where D holds, p draws
+-- it reads the seed just where a stream draws first, and both have the same streams after; where D holds, p draws
 -- nothing, and comes to the same from any streams
 abbrev pub Known : {A : Type 0} → (Item → Type 0) → (A → Type 0) → List Stream → A × List Stream → List Item → Type 0
 Known I Q before r is = Q r.0 × AllByRecursion I is × Drew before r.1 is
@@ -194,7 +194,7 @@ lawful_bind {t = t} {seed = seed} {I = I} {R = R} {p = p} {k = k} l first second
       ∙ (second parts.0.0 known.0).steady quiet parts.0.1 r parts.2 streams);
 }
 
--- an error, and a test at which it comes; what comes behind the test may know that it does not hold
+-- an error, and a test at which it comes; what comes after the test may know that it does not hold
 pub lawful_ends : {A B : Type 0} {t : Listing} {seed : ℕ} {move : ℕ → ℕ} {D : Type 0} {I : Item → Type 0} {f : A → B} {Q : A → Type 0} {stop : Stop} →
     Lawful t seed move D I IsError f Q (ends_with (ends.Error stop)) (ends_with (ends.Error stop))
 lawful_ends = lawful_end tt

@@ -42,12 +42,12 @@ pub marked_same : (change : Change) (clock : ℕ) (x : Transaction) →
 marked_same (changes.Transaction change) clock x = own_same change clock x
 marked_same change clock x = (refl, refl)
 
--- the current chain behind a fate
+-- the current chain after a fate
 abbrev pub current_behind : Fate → Transaction → List Transaction → List Transaction
 current_behind fates.Current x chain = lined_up x chain
 current_behind fate x chain = chain
 
--- the user chains behind a fate
+-- the user chains after a fate
 abbrev pub linked_behind : Fate → Transaction → List (Key × UserChain) → List (Key × UserChain)
 linked_behind (fates.Linked key discipline) x linked = with_value linked key (linked_to discipline x (user_chain_at linked key))
 linked_behind fate x linked = linked
@@ -84,7 +84,7 @@ settled_is s x id change fate = record {
   entities = refl;
 }
 
--- whoever is active behind it is the one that entered the block
+-- whoever is active after it is the one that entered the block
 pub still_active : (s : Machine) (x : Transaction) (id : ℕ) (change : Change) (fate : Fate) (y : Transaction) →
     (settled s x id change fate).active ≡ Some y → y ≡ marked change s.clock (placed x id)
 still_active s x id change fates.Active y is = let both : Some (marked change s.clock (placed x id)) ≡ Some y = is in cc
@@ -129,7 +129,7 @@ some_unlinked_keep Q key to step (suc n) [] w is h = h
 some_unlinked_keep Q key to step (suc n) (x ∷ xs) w is h =
     some_unlinked_keep Q key to step n xs (one_unlinked key to x xs w) (members_set w.linked key xs) (step w x xs is h)
 
--- on the way behind the state s the active transaction x is copied in the state w: one of the next 100,000 numbers is given,
+-- on the way after the state s the active transaction x is copied in the state w: one of the next 100,000 numbers is given,
 -- unless they are at their end
 pub record IsCopying (t : Listing) (s w : Machine) (to : Option ℕ) (x : Transaction) : Type 0 where
   pub named : IsSentTo t to
@@ -166,7 +166,7 @@ abbrev pub Unlinks : Listing → (Machine → Type 0) → Type 0
 Unlinks t Q = (w : Machine) (key : Key) (to : Option ℕ) (x : Transaction) (xs : List Transaction) → IsSentTo t to →
     (user_chain_at w.linked key).members ≡ x ∷ xs → Q w → Q (one_unlinked key to x xs w)
 
--- where P holds of the settled state, Q holds behind the block, if it holds with nothing more and with one more transaction
+-- where P holds of the settled state, Q holds after the block, if it holds with nothing more and with one more transaction
 -- made, and if it still holds where one of a delay chain is let in, one copy is made, or the first of a user chain leaves it
 pub record Brings (P Q : Machine → Type 0) (t : Listing) (s v : Machine) : Type 0 where
   pub nothing : P v → Q v

@@ -35,7 +35,7 @@ counted : (b : ℕ) (line : Numbered) (lines : List Numbered) → cond (is_block
 counted b line lines = elim (is_block line) as (λ k. cond k (b + 1) b + count_blocks lines ≡
     b + length (cond k (line ∷ filter is_block lines) (filter is_block lines))) [ true ↦ omega arith | false ↦ refl ]
 
--- a block of these lines stands so many blocks behind what is in front of them
+-- a block of these lines stands so many blocks after what is in front of them
 abbrev Stands : List Numbered → ℕ → ℕ → Type 0
 Stands lines p k = (b : ℕ) → position_in b lines p ≡ Some (b + suc k)
 

@@ -25,7 +25,7 @@ abbrev renaming : List Numbered → List Numbered → ℕ → ℕ
 renaming ls ms zero = zero
 renaming ls ms (suc p) = renamed_by (greatest ms) (suc p) (number_for ls ms (suc p))
 
--- where a test fails, what stands behind it decides
+-- where a test fails, what stands after it decides
 pub behind : {X : Type 0} (b : Bool) (x : X) (o : Option X) → cond b (Some x) o ≡ None → (b ≡ false) × (o ≡ None)
 behind true x o none = absurd cc
 behind false x o none = (refl, none)

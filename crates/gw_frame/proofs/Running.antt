@@ -33,7 +33,7 @@ module _ (t : Listing) (seed : ℕ) where
   one_state : (m n : ℕ) (s v : Machine) → m ≡ n → run t seed m ≡ Ok s → run t seed n ≡ Ok v → s ≡ v
   one_state m n s v same there is = let both : Ok s ≡ Ok v = sym there ∙ (ap (run t seed) same ∙ is) in cc
 
-  -- what a state of a run has and each step behind it keeps, each later state has
+  -- what a state of a run has and each step after it keeps, each later state has
   pub over_steps : (P : ℕ → Machine → Type 0) (m : ℕ) (s : Machine) → run t seed m ≡ Ok s → P m s →
       ((n : ℕ) (u : Machine) (move : Move) (streams : List Stream) → m ≤ n → run t seed n ≡ Ok u →
       result_of t seed (decide u) ≡ Ok (move, streams) → P n u → P (suc n) (decided u move streams)) →
@@ -52,7 +52,7 @@ module _ (t : Listing) (seed : ℕ) where
             (over_steps P m s there start keeps n last.before earlier last.there))
       ]
 
-  -- the same where it is kept by each decided move, behind a state and from the start
+  -- the same where it is kept by each decided move, after a state and from the start
   pub over_rest : (P : ℕ → Machine → Type 0) (m : ℕ) (s : Machine) → run t seed m ≡ Ok s → P m s →
       ((n : ℕ) (u : Machine) (move : Move) (streams : List Stream) → run t seed n ≡ Ok u → IsDecided t u move → P n u → P (suc n) (decided u move streams)) →
       (n : ℕ) (v : Machine) → m ≤ n → run t seed n ≡ Ok v → P n v

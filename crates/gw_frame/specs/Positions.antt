@@ -1,6 +1,6 @@
 -- The frame law in positions. A state names a block by its statement id, which edits leave alone; a version tells its
 -- position. Where statements of a version are deleted and others are inserted between those that stay, the positions
--- behind them move, and nothing else of a run does that answers alike. (Manual: positions. Our own: statement ids.)
+-- after them move, and nothing else of a run does that answers alike. (Manual: positions. Our own: statement ids.)
 use Rattle.std.specs.Prelude.{ℕ, ◌≡◌, ◌+◌, ◌-◌, ◌<◌, ◌≤◌, List, ◌++◌, length, map, filter, Ok, if◌then◌else◌, nat_le, unwrap_or}
 use Rattle.gw_meaning.specs.declared.statement.Numbered.{Numbered}
 use Rattle.gw_meaning.specs.Listing.{Listing, is_block, position_at}
@@ -25,7 +25,7 @@ pub record IsSplice (t u : Listing) (front deleted inserted back : List Numbered
 abbrev pub count_blocks : List Numbered → ℕ
 count_blocks lines = length (filter is_block lines)
 
--- positions behind the front move on by the inserted blocks, and back by the deleted ones
+-- positions after the front move on by the inserted blocks, and back by the deleted ones
 abbrev pub shifted : List Numbered → List Numbered → List Numbered → ℕ → ℕ
 shifted front deleted inserted position =
     if nat_le position (count_blocks front) then position else (position - count_blocks deleted) + count_blocks inserted

@@ -1,7 +1,7 @@
 //! A run depends only on the questions that it asked.
 //!
 //! A version that answers those alike has the same run, state for state, and is asked the same. One whose statements
-//! have other ids has the run with its ids renamed. Told in positions, a run behind an edit that it did not see
+//! have other ids has the run with its ids renamed. Told in positions, a run after an edit that it did not see
 //! is the old one with its positions moved. The seed is asked for just where a stream draws first.
 #![tactic(auto)]
 

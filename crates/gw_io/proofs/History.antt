@@ -10,7 +10,7 @@ still took onward a b c x p q =
     let P : List ℕ → Type 0 = λ v. took a v c in
     subst P (append-nil x) (onward a b c x [] p q)
 
--- m more bytes of a list behind its first n
+-- m more bytes of a list after its first n
 pub further : {S : Type 0} (took : S → List ℕ → S → Type 0) → ((a b c : S) (x y : List ℕ) → took a x b → took b y c → took a (x ++ y) c) →
     (a b c : S) (xs : List ℕ) (n m : ℕ) → took a (take n xs) b → took b (take m (take (length xs - n) (drop n xs))) c → took a (take (n + m) xs) c
 further took onward a b c xs n m p q =

@@ -51,7 +51,7 @@ module _ {S : Type 0} (took : S → List ℕ → S → Type 0) (ended : S → Ty
     spent = calls text line k m n 1 spent s;
   }
 
-  -- the model ends with the input, behind an unended line
+  -- the model ends with the input, after an unended line
   pub at_last : (line : List ℕ) → IsUnended line → line ≢ codes "end" → took b line c → m ≡ n + (length line + 1) → ended c →
       TakesModel took ended a c k n (text ++ line)
   at_last line u e t s h = record {
@@ -63,7 +63,7 @@ module _ {S : Type 0} (took : S → List ℕ → S → Type 0) (ended : S → Ty
     spent = calls text line k m n 1 spent s;
   }
 
-  -- the model ends with the input, behind its last line feed
+  -- the model ends with the input, after its last line feed
   pub at_nothing : took b [] c → m ≡ n + 1 → ended c → TakesModel took ended a c k n text
   at_nothing t s h =
       let P : List ℕ → Type 0 = λ v. TakesModel took ended a c k n v in

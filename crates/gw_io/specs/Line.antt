@@ -19,7 +19,7 @@ calls_of (Whole line) = length line.items + 1
 calls_of (Last line) = length line.items + 1
 calls_of End = 1
 
--- what a line says of its bytes, and of the source behind it: whether its input ended there
+-- what a line says of its bytes, and of the source after it: whether its input ended there
 abbrev pub IsLineAt : Type 0 → Line → Type 0
 IsLineAt ended (Whole line) = IsUnended line.items
 IsLineAt ended (Last line) = IsUnended line.items × (line.items ≢ []) × ended

@@ -7,7 +7,7 @@ use Rattle.gw_io.specs.Line.{IsUnended, without_cr_of}
 abbrev pub with_feed : List ℕ → List ℕ
 with_feed line = line ++ 10 ∷ []
 
--- a line that ends the model, where a line feed stands behind it
+-- a line that ends the model, where a line feed stands after it
 abbrev pub IsEnd : List ℕ → Type 0
 IsEnd line = without_cr_of line ≡ codes "end"
 

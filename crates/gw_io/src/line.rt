@@ -10,9 +10,9 @@ use std::alloc::Global;
 /// A line of the input, without its line feed.
 #[derive(Drop)]
 pub enum Line {
-    /// A line feed stood behind these bytes.
+    /// A line feed stood after these bytes.
     Whole(Vec<u8>),
-    /// The input ended behind these bytes, of which there is at least one.
+    /// The input ended after these bytes, of which there is at least one.
     Last(Vec<u8>),
     /// The input ended with nothing more.
     End,

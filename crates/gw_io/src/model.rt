@@ -11,7 +11,7 @@ use std::alloc::Global;
 /// Reads the text of a model: what stands before the first line that is exactly `end`, or all of the input
 /// where it has no such line.
 ///
-/// That line is read too, and what stands behind it is left unread. Its carriage return, if one stands right
+/// That line is read too, and what stands after it is left unread. Its carriage return, if one stands right
 /// before the line feed, is no part of it. A last line without a line feed may be `end` as well.
 ///
 /// # Errors

@@ -58,7 +58,7 @@ impl<R: Read> Source for FromRead<R> {
 
 /// A sink that passes each slice on to an [`io::Write`](std::io::Write).
 ///
-/// A write does not flush the writer: give it one without a buffer, or call [`ToWrite::flush`] behind each
+/// A write does not flush the writer: give it one without a buffer, or call [`ToWrite::flush`] after each
 /// answer. Each error of the writer is a failure, an interrupted call too, and so is a write that takes none
 /// of some bytes.
 #[derive(Drop)]

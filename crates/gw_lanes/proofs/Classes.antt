@@ -16,7 +16,7 @@ use Rattle.gw_lanes.specs.Counts.{count_at_most, class_counts, is_up_to, is_abov
 
 -- ---- by blocks
 
--- what lies in the first blocks of n numbers, and behind them
+-- what lies in the first blocks of n numbers, and after them
 pub by_blocks : (limit : ℤ) (n k : ℕ) (zs : List ℤ) →
     sum_by (count_at_most limit) (first_chunks n k zs) + count_at_most limit (drop (k * n) zs) ≡ count_at_most limit zs
 by_blocks limit n zero zs =
@@ -61,7 +61,7 @@ in_block f c limit fits zs each e =
     ∙ ap count_ones (mask_l-mod (map (λ z. int_le z limit) zs) 64 few)
     ∙ ones-mask_l (λ z. int_le z limit) zs
 
--- a list by its blocks and what is behind them, where the limit passed through its type
+-- a list by its blocks and what is after them, where the limit passed through its type
 pub counted : (limit m : ℤ) (zs rest : List ℤ) (blocks : List (List ℤ)) (a b : ℕ) → m ≡ limit → blocks ≡ first_chunks 16 (length zs / 16) zs →
     rest ≡ drop (length zs / 16 * 16) zs → a ≡ sum_by (count_at_most m) blocks → b ≡ count_at_most m rest → a + b ≡ count_at_most limit zs
 counted limit m zs rest blocks a b same front back over behind =

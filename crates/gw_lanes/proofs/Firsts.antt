@@ -93,7 +93,7 @@ place_of_mark value ns mask e le some =
     ∙ ap Some (trailing_mask_l (λ n. n == value) 64 ns le (omega arith))
     ∙ some_marked value ns (omega arith)
 
--- ---- blocks one behind another
+-- ---- blocks one after another
 -- how long the first blocks are
 blocks_long : (blocks : List (List ℕ)) (i : ℕ) → i ≤ length blocks → ((k : ℕ) → k < length blocks → length (get_or blocks k []) ≡ 8)
     → length (concat (take i blocks)) ≡ i * 8

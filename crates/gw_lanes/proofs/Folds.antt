@@ -51,7 +51,7 @@ next_block m lanes blocks i lt e so_far =
     ∙ sym (fold-append min m (concat (take i blocks)) block)
     ∙ ap (fold min m) (sym longer)
 
--- the blocks of a list, and what is behind them
+-- the blocks of a list, and what is after them
 pub fold-blocks : (m n k : ℕ) (ns : List ℕ) → fold min (fold min m (concat (first_chunks n k ns))) (drop (k * n) ns) ≡ fold min m ns
 fold-blocks m n zero ns = let e : 0 * n ≡ 0 = omega arith in ap (λ (j : ℕ). fold min m (drop j ns)) e
 fold-blocks m n (suc k) ns =
@@ -75,7 +75,7 @@ least_is m (n ∷ ns) some le =
     let e : min m n ≡ n = omega arith in
     ap (λ (x : ℕ). Some x) (ap (λ (x : ℕ). fold min x ns) e ∙ sym (fold_least n ns))
 
--- the least of a list by lanes over its blocks of n numbers, and then over what is behind them
+-- the least of a list by lanes over its blocks of n numbers, and then over what is after them
 pub by_blocks : (m n : ℕ) (ns rest lanes : List ℕ) (blocks : List (List ℕ)) (first last : ℕ) → 0 < length ns → get_or ns 0 0 ≤ m
     → blocks ≡ first_chunks n (length ns / n) ns → rest ≡ drop (length ns / n * n) ns
     → fold min m lanes ≡ fold min m (concat blocks) → first ≡ fold min m lanes → last ≡ fold min first rest → Some last ≡ least ns

@@ -53,7 +53,7 @@ pub fn first_at(values: &[u64], value: u64) -> Option<usize>
     first_from(values, values.len() - rest.len(), value)
 }
 
-// The first place in blocks that stand one behind another.
+// The first place in blocks that stand one after another.
 #[inline]
 fn first_in_blocks(blocks: &[[u64; 8]], value: u64) -> Option<usize>
     ensures { result ≡ first_at value (concat blocks.now) }

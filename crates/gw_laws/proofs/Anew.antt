@@ -40,7 +40,7 @@ pub no_reset_decided : (t : Listing) (s : Machine) (m : Move) → IsDecided t s 
 no_reset_decided t s moves.Reset decided none c = none (record { idle = decided.idle; next = decided.next })
 no_reset_decided t s m decided none c = c
 
--- nobody lives behind a CLEAR
+-- nobody lives after a CLEAR
 pub nobody_lives : (s v : Machine) (m : Move) (streams : List Stream) → v ≡ decided s m streams → Clears m → living v ≡ []
 nobody_lives s v moves.Clear streams is c = ap living is
 nobody_lives s v m streams is c = absurd c

@@ -45,7 +45,7 @@ behind_is s v m t seed goes is = let both : Ok (decided s m s.streams) ≡ Ok v 
 pub clear_begins_anew : ClearBeginsAnew
 clear_begins_anew t seed s v next is = sym (behind_is s v moves.Clear t seed (done_next t seed s commands.Clear moves.Clear next refl) is)
 
--- behind a RESET nobody wakes
+-- after a RESET nobody wakes
 reset_is : (t : Listing) (seed : ℕ) (s v : Machine) → IsNextCommand t s commands.Reset → step t seed s ≡ Ok v →
     (let w : Machine = record (reset s) { streams = s.streams } in w) ≡ v
 reset_is t seed s v next is =

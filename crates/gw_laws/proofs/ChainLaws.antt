@@ -45,12 +45,12 @@ pub record AreChained (s : Machine) : Type 0 where
 pub delay_ordered : (s : Machine) (key : Key) → AreChained s → IsOrdered (delay_at s.delays key)
 delay_ordered s key h = at_has IsOrdered [] s.delays key tt h.delays
 
--- the current chain stays in order behind a fate
+-- the current chain stays in order after a fate
 behind_ordered : (fate : Fate) (x : Transaction) (chain : List Transaction) → IsOrdered chain → IsOrdered (current_behind fate x chain)
 behind_ordered fates.Current x chain h = ordered_lined x chain h
 behind_ordered fate x chain h = h
 
--- a block leaves the chains as they are, but for one who goes behind his equals, is let in or refused
+-- a block leaves the chains as they are, but for one who goes after his equals, is let in or refused
 settled_ordered : (s : Machine) (x : Transaction) (id : ℕ) (change : Change) (fate : Fate) → AreChained s → AreChained (settled s x id change fate)
 settled_ordered s x id change fate h =
     let same = settled_is s x id change fate in
@@ -115,7 +115,7 @@ all_ordered t seed n s is = (all_chained t seed n s is).current
 pub chain_is_in_order : ChainIsInOrder
 chain_is_in_order t seed n s is = in_order s.current (all_ordered t seed n s is)
 
--- Lists of numbers: others come behind those that were there, or the first goes.
+-- Lists of numbers: others come after those that were there, or the first goes.
 pub joined : (ks more : List ℕ) → AllByRecursion (λ k. is_in ks k ≡ false) more → IsFirstInFirstOut ks (ks ++ more)
 joined ks more new = (0, more, refl, All-from_recursion (λ k. is_in ks k ≡ false) more new)
 
@@ -128,7 +128,7 @@ first_gone k ks = (1, [], sym (append-nil ks), All-from_recursion (λ j. is_in (
 pub never_below_itself : (a : ℤ) → is_below a a ≡ false
 never_below_itself a = elim (cases_Bool (is_below a a)) [ inl below ↦ below_one_way a a below | inr not' ↦ not' ]
 
--- One more on a chain in order stands behind those of its priority that are there.
+-- One more on a chain in order stands after those of its priority that are there.
 module _ (priority : ℤ) where
   abbrev has_priority : Transaction → Bool
   has_priority x = int_eq x.priority priority
@@ -139,7 +139,7 @@ module _ (priority : ℤ) where
   first_other : (x : Transaction) (xs : List Transaction) → has_priority x ≡ false → numbers_of priority (x ∷ xs) ≡ numbers_of priority xs
   first_other x xs other = rw other refl
 
-  -- behind one of lower priority none has this one
+  -- after one of lower priority none has this one
   none_further : (y : Transaction) (ys : List Transaction) → is_below y.priority priority ≡ true → AreNotAbove y ys → numbers_of priority ys ≡ []
   none_further y [] below h = refl
   none_further y (z ∷ zs) below h =
@@ -226,7 +226,7 @@ module _ (priority : ℤ) where
       rw (lined_numbers x ys order)
       (joined (numbers_of priority ys) (numbers_of priority (x ∷ [])) (come_new ys (x ∷ []) (λ k. let all = once k in omega arith)))
 
-  -- others stand behind those who stood there, each with a number of his own
+  -- others stand after those who stood there, each with a number of his own
   record StandBehind (s w : Machine) : Type 0 where
     order : IsOrdered w.current
     come : List ℕ
@@ -301,7 +301,7 @@ module _ (priority : ℤ) where
   unlinked_behind s w key to x xs is h =
       comes_behind s w (one_unlinked key to x xs w) (sent to x) refl (unlinked_numbered w key to x xs is h.numbered) h
 
-  -- those who wake stand behind, too
+  -- those who wake stand after, too
   woken_behind : (list : List Watched) (s w : Machine) → StandBehind s w → StandBehind s (woken list w)
   woken_behind list s w h =
       let xs = transactions_of (filter (is_woken list) w.retry) in
@@ -322,7 +322,7 @@ module _ (priority : ℤ) where
         numbered = numbered;
       }
 
-  -- behind a move those stand who wake
+  -- after a move those stand who wake
   abbrev DecidedTurn : Machine → Move → Type 0
   DecidedTurn s m = TakesTurns s (woken (written s m) (moved s m))
 

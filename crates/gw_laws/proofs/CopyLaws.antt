@@ -86,7 +86,7 @@ module _ (to : Option ℕ) (x : Transaction) (values : List (Key × ℤ)) where
 
 -- ---- a step that is the entry of a SPLIT
 
--- the transaction in its block, before and behind the making of the copies
+-- the transaction in its block, before and after the making of the copies
 abbrev pub settles : Machine → ℕ → ℕ → Option ℕ → Transaction → Machine
 settles s id count to parent = settled s parent id (changes.Split count to) fates.Active
 
@@ -217,7 +217,7 @@ all_more : (P Q : Transaction → Type 0) (xs : List Transaction) → ((x : Tran
 all_more P Q [] each all = tt
 all_more P Q (x ∷ xs) each all = (each x all.0, all_more P Q xs each all.1)
 
--- whoever lives behind the step was there before, or is a copy
+-- whoever lives after the step was there before, or is a copy
 module _ (s v : Machine) (id count : ℕ) (to : Option ℕ) (h : Splits s v id count to) where
   abbrev WasThere : Transaction → Type 0
   WasThere y = y.number < s.next

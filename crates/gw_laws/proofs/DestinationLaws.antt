@@ -289,7 +289,7 @@ module _ (s : Machine) (x : Transaction) (id : ℕ) (active : s.active ≡ Some 
       (changed_keeps IsRight change (settled s x id change fate) (all_clear x.number low stray stray_other elsewhere sent_right)
       (settled_right change fate)).none_passes
 
-  -- behind an entry it waits on no delay chain
+  -- after an entry it waits on no delay chain
   pub entered_waits_not : (change : Change) (fate : Fate) → many has (waiting (entering s x id change fate).delays) ≡ 0
   entered_waits_not change fate =
       (changed_keeps IsRight change (settled s x id change fate) (all_clear x.number low stray stray_other elsewhere sent_right)

@@ -1,4 +1,4 @@
--- The future chain keeps its order: whoever stays on it keeps his place in a step, and whoever comes stands behind. Nobody
+-- The future chain keeps its order: whoever stays on it keeps his place in a step, and whoever comes stands after. Nobody
 -- leaves it but at his time.
 use Rattle.std.proofs.Common.{◌≡◌, ◌⊎◌, ℕ, zero, suc, ◌+◌, ◌-◌, ◌<◌, ◌≤◌, ◌^◌, nat_eq, Bool, true, false, cond, not, List, [], ◌∷◌, ◌++◌, filter, length, Some, refl, ap, sym, subst, ◌∙◌, append-nil, append_assoc, arith, inl, inr}
 use Rattle.std.specs.Prelude.{Contains}
@@ -81,7 +81,7 @@ rest_stay time (e ∷ es) once =
 
 -- ---- others come
 
--- behind those who were there others stand
+-- after those who were there others stand
 record Came (s : Machine) (future : List Event) : Type 0 where
   come : List ℕ
   numbers : numbers_coming future ≡ numbers_coming s.future ++ come

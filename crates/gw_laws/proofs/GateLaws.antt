@@ -423,7 +423,7 @@ module _ (t : Listing) (seed : ℕ) (s : Machine) where
 
 -- ---- over a run
 
--- what holds of each who waits, and of whoever comes, holds of each who waits behind a step
+-- what holds of each who waits, and of whoever comes, holds of each who waits after a step
 pub all_wait_on : (P Q : Waiter → Type 0) (s : Machine) (m : Move) (streams : List Stream) → AllByRecursion P s.retry →
     AllByRecursion P (who_comes m s.active) → ((w : Waiter) → (Clears m → ⊥) → is_woken (written s m) w ≡ false → P w → Q w) →
     AllByRecursion Q (decided s m streams).retry

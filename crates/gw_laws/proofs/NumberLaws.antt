@@ -195,7 +195,7 @@ pub record IsOf (k : ℕ) (test : Transaction → Bool) : Type 0 where
 pub of_number : (k : ℕ) → IsOf k (has_number k)
 of_number k = record { no_other = λ x other. other; stands = λ x id. refl; waits = λ x id units. refl; goes = λ x to. refl }
 
--- A number that was given, of which no transaction passes a test: none does behind a move, where the block that the active one
+-- A number that was given, of which no transaction passes a test: none does after a move, where the block that the active one
 -- enters does not change what it comes to.
 module _ (k : ℕ) (test : Transaction → Bool) (of : IsOf k test) where
   abbrev pub IsGone : Machine → Type 0

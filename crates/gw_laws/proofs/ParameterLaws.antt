@@ -109,7 +109,7 @@ module _ (s : Machine) (x : Transaction) (id : ℕ) (change : Change) (is : s.ac
   number_is : number ≡ x.number
   number_is = (marked_same change s.clock (placed x id)).0
 
-  -- whoever has parameters behind the change lives before it
+  -- whoever has parameters after the change lives before it
   alive_before : (k : ℕ) → 1 ≤ times k (held_by change x.number s.parameters) → Lives k s
   alive_before k some =
       elim (change_has k x.number change s.parameters some) [

@@ -121,7 +121,7 @@ module _ (t : Listing) (well : Well t) where
         none = h.none;
       })
 
-  -- a CLEAR, behind which no START is under way, as before it
+  -- a CLEAR, after which no START is under way, as before it
   cleared_done : (s : Machine) → s.remaining ≡ 0 → command_at t (raised s.commands) ≡ Some commands.Clear → Done s →
       AreDone t (raised s.commands) s.complete 0
   cleared_done s idle is h = subst (AreDone t (raised s.commands) s.complete) idle (other_done s commands.Clear is refl h)

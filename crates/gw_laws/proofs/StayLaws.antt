@@ -48,7 +48,7 @@ filter_both f g (k ∷ ks) =
       | inr other ↦ rw other rest
     ]
 
--- some stay, or others come behind all
+-- some stay, or others come after all
 pub some_stay : (before after : List ℕ) (stays : ℕ → Bool) → after ≡ filter stays before → KeepPlaces before after
 some_stay before after stays is =
     (stays, [], is ∙ sym (append-nil (filter stays before)), All-from_recursion (λ k. is_in before k ≡ false) [] tt)

@@ -111,7 +111,7 @@ before_transactions [] v w before = absurd before
 before_transactions (u ∷ us) v w (inl (same, there)) = inl (ap (λ (z : Waiter). z.transaction) same, stands_transactions us w there)
 before_transactions (u ∷ us) v w (inr before) = inr (before_transactions us v w before)
 
--- ---- lining up keeps that, and puts whoever comes later behind
+-- ---- lining up keeps that, and puts whoever comes later after
 
 lined_stands : (x : Transaction) (ys : List Transaction) (z : Transaction) → Stands ys z → Stands (lined_up x ys) z
 lined_stands x [] z there = absurd there
@@ -130,7 +130,7 @@ lined_itself x [] = inl refl
 lined_itself x (y ∷ ys) =
     cond_both (is_below y.priority x.priority) (x ∷ y ∷ ys) (y ∷ lined_up x ys) (λ zs. Stands zs x) (λ _. inl refl) (λ _. inr (lined_itself x ys))
 
--- behind its equals
+-- after its equals
 lined_behind : (x : Transaction) (ys : List Transaction) (a : Transaction) → IsOrdered ys → Stands ys a → a.priority ≡ x.priority → Before (lined_up x ys) a x
 lined_behind x [] a order there equal = absurd there
 lined_behind x (y ∷ ys) a order (inl same) equal =
@@ -194,7 +194,7 @@ entering_retry s x id change fate =
     })
     (settled_is s x id change fate).retry
 
--- behind those who were there
+-- after those who were there
 pub retry_behind : (s : Machine) (m : Move) → (Clears m → ⊥) → (moved s m).retry ≡ s.retry ++ who_comes m s.active
 retry_behind s moves.Clear apart = absurd (apart tt)
 retry_behind s (moves.Enter id change fate) apart =
@@ -249,7 +249,7 @@ waiters_keep_their_order t seed s v is =
       )
     ]
   where
-    -- behind a CLEAR nobody waits
+    -- after a CLEAR nobody waits
     none_waits : (s v : Machine) (m : Move) (streams : List Stream) → v ≡ decided s m streams → Clears m → v.retry ≡ []
     none_waits s v moves.Clear streams same c = ap (λ (u : Machine). u.retry) same
     none_waits s v m streams same c = absurd c

@@ -93,7 +93,7 @@ module _ (resets : Bool) (t : Listing) (seed : ℕ) where
   abbrev Comes : {A : Type 0} → Eval A → A → Type 0
   Comes p a = ComesTo t seed p a
 
-  -- of two parts, behind the first
+  -- of two parts, after the first
   behind : {A B : Type 0} (p : Eval A) (k : A → Eval B) (a : A) (b : B) → Comes p a → Comes (p ~> k) b → Comes (k a) b
   behind p k a b first both streams =
       sym (bind_gives t seed (p streams) (λ c. k c.0 c.1) (a, streams) (first streams)).0 ∙ both streams
@@ -607,7 +607,7 @@ each_more : (P Q : Waiter → Type 0) (ws : List Waiter) → ((w : Waiter) → P
 each_more P Q [] more all = tt
 each_more P Q (w ∷ ws) more all = (more w all.0, each_more P Q ws more all.1)
 
--- whoever came behind a moment waits at no TEST that holds
+-- whoever came after a moment waits at no TEST that holds
 module _ (resets : Bool) (t : Listing) (seed : ℕ) (well : Well t) (m : ℕ) (start : Machine) where
   abbrev CameOr : Machine → Waiter → Type 0
   CameOr s w = Contains start.retry w ⊎ AtTest resets t seed s w

@@ -76,7 +76,7 @@ nobody_wakes_unless_a_block_is_entered t seed s v m streams goes is no_next apar
       who_comes_is m s.active,
     )
 
--- whoever enters a block does not wait behind the step
+-- whoever enters a block does not wait after the step
 waits_or_enters : (s : Machine) (x : Transaction) (m : Move) (streams : List Stream) → s.active ≡ Some x → IsNumbered s → x.number < 2 ^ 64 - 1 →
     HasToWait (decided s m streams) x → IsEntry m → ⊥
 waits_or_enters s x (moves.Enter id change fate) streams active h low waits entry =
@@ -96,7 +96,7 @@ waits_or_enters s x (moves.Enter id change fate) streams active h low waits entr
     omega arith
 waits_or_enters s x m streams active h low waits entry = absurd entry
 
--- whoever waits behind a step, waits behind no CLEAR
+-- whoever waits after a step, waits after no CLEAR
 waits_at_no_clear : (s : Machine) (x : Transaction) (m : Move) (streams : List Stream) → HasToWait (decided s m streams) x → Clears m → ⊥
 waits_at_no_clear s x moves.Clear streams waits c = nobody_in waits.0 [] refl waits.1
 waits_at_no_clear s x m streams waits c = c
@@ -191,7 +191,7 @@ crossed_by key (Some units ∷ shares) passed (x ∷ xs) w r there =
     go (Some to) is (inr (inr none)) = absurd none
 
 module _ (s : Machine) (x : Transaction) (id : ℕ) (fate : Fate) (active : s.active ≡ Some x) where
-  -- whoever stands on the current chain behind an entry stands there behind the step
+  -- whoever stands on the current chain after an entry stands there after the step
   abbrev StandsBehind : Change → Machine → Type 0
   StandsBehind change v = (z : Transaction) → Contains (entering s x id change fate).current z → Contains v.current z
 

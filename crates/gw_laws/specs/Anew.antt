@@ -39,7 +39,7 @@ abbrev pub NoneBetween : Command → Listing → ℕ → ℕ → ℕ → Type 0
 NoneBetween command t seed m n =
     (k : ℕ) (u : Machine) → m ≤ k → k < n → run t seed k ≡ Ok u → IsNextCommand t u command → ⊥
 
--- right behind a CLEAR the state is that before the first step, but for the streams and what is done of the commands
+-- right after a CLEAR the state is that before the first step, but for the streams and what is done of the commands
 abbrev pub ClearBeginsAnew : Type 0
 ClearBeginsAnew =
     (t : Listing) (seed : ℕ) (s v : Machine) → IsNextCommand t s commands.Clear → step t seed s ≡ Ok v →
@@ -110,7 +110,7 @@ ResetCountsAnew =
 abbrev pub IsTabulate : Key → ℤ → Move → Type 0
 IsTabulate key value m = (id : ℕ) × (m ≡ moves.Enter id (changes.Entity (key, deeds.Table value)) fates.Active)
 
--- one value comes to a table, behind its others, and no other entity changes
+-- one value comes to a table, after its others, and no other entity changes
 pub record OneValueMore (key : Key) (value : ℤ) (before after : Entities) : Type 0 where
   pub here : table_at after key ≡ table_at before key ++ value ∷ []
   pub elsewhere : (other : Key) → other ≢ key → table_at after other ≡ table_at before other

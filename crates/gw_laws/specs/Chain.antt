@@ -11,7 +11,7 @@ use Rattle.gw_meaning.specs.Step.{step, run}
 use Rattle.gw_model.specs.Well.{Well}
 use Rattle.gw_laws.specs.Anew.{IsNoClear}
 
--- no transaction stands behind one of lower priority
+-- no transaction stands after one of lower priority
 abbrev pub ChainIsInOrder : Type 0
 ChainIsInOrder = (t : Listing) (seed n : ℕ) (s : Machine) → run t seed n ≡ Ok s → AreInOrder s.current
 
@@ -24,7 +24,7 @@ numbers_of priority chain =
 abbrev pub is_in : List ℕ → ℕ → Bool
 is_in numbers number = list_any (λ other. other == number) numbers
 
--- first in first out: the first ones go, those behind them keep their order, and others come behind these
+-- first in first out: the first ones go, those after them keep their order, and others come after these
 abbrev pub IsFirstInFirstOut : List ℕ → List ℕ → Type 0
 IsFirstInFirstOut before after =
     (gone : ℕ) × (come : List ℕ) × (after ≡ drop gone before ++ come) × All (λ number. is_in before number ≡ false) come
@@ -62,7 +62,7 @@ AllOfATimeCome =
     (All (λ (e : Event). v.clock < e.time) v.future) × ((priority : ℤ) →
     numbers_of priority v.current ≡ numbers_of priority s.current ++ numbers_of priority (coming_at v.clock s.future))
 
--- places are kept: some stay, in the order in which they were there, and others come behind these
+-- places are kept: some stay, in the order in which they were there, and others come after these
 abbrev pub KeepPlaces : List ℕ → List ℕ → Type 0
 KeepPlaces before after =
     (stays : ℕ → Bool) × (come : List ℕ) × (after ≡ filter stays before ++ come)
@@ -73,7 +73,7 @@ abbrev pub numbers_coming : List Event → List ℕ
 numbers_coming future = map (λ (e : Event). e.transaction.number) future
 
 -- the future chain is in the order of coming onto it: in a step whoever stays on it keeps his place, and whoever comes
--- stands behind
+-- stands after
 abbrev pub FutureKeepsItsOrder : Type 0
 FutureKeepsItsOrder =
     (t : Listing) (seed n : ℕ) (s v : Machine) → Well t → n ≤ t.limit →

@@ -71,8 +71,8 @@ abbrev pub numbers_from : ℕ → ℕ → List ℕ
 numbers_from first zero = []
 numbers_from first (suc n) = first ∷ numbers_from (suc first) n
 
--- the copies stand on the current chain in the order of their numbers, behind all of their priority who stood there;
--- behind them stand those whom the step wakes
+-- the copies stand on the current chain in the order of their numbers, after all of their priority who stood there;
+-- after them stand those whom the step wakes
 abbrev pub CopiesLineUpInOrder : Type 0
 CopiesLineUpInOrder =
     (t : Listing) (seed : ℕ) (s v : Machine) (id count : ℕ) (to : Option ℕ) → IsSplit t seed s v id count to →

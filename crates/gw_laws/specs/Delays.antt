@@ -13,7 +13,7 @@ use Rattle.gw_model.specs.Well.{Well}
 use Rattle.gw_laws.specs.Anew.{IsNoClear}
 use Rattle.gw_laws.specs.Chain.{numbers_of, IsFirstInFirstOut, KeepPlaces}
 
--- no transaction stands behind one of lower priority
+-- no transaction stands after one of lower priority
 abbrev pub DelaysAreInOrder : Type 0
 DelaysAreInOrder =
     (t : Listing) (seed n : ℕ) (s : Machine) → run t seed n ≡ Ok s → (key : Key) → AreInOrder (delay_at s.delays key)

@@ -13,7 +13,7 @@ use Rattle.gw_meaning.specs.Watching.{transactions_of}
 use Rattle.gw_model.specs.Well.{Well}
 use Rattle.gw_laws.specs.Living.{living}
 
--- the block to which a transaction goes: its destination where it has one, and else the block behind its own
+-- the block to which a transaction goes: its destination where it has one, and else the block after its own
 abbrev pub goes_to : Listing → Transaction → Option ℕ
 goes_to t x = or_next x.destination (after_at t x.current)
 

@@ -8,7 +8,7 @@ use Rattle.gw_meaning.specs.Step.{first_number, run}
 use Rattle.gw_laws.specs.Living.{IsActive}
 use Rattle.gw_laws.specs.Anew.{IsNoClear}
 
--- nobody but its owner gives a facility back: where it has another owner behind a step, or none, the one that it had
+-- nobody but its owner gives a facility back: where it has another owner after a step, or none, the one that it had
 -- was the active transaction, unless a CLEAR takes all facilities away; a RESET leaves their owners
 abbrev pub OnlyTheOwnerGivesBack : Type 0
 OnlyTheOwnerGivesBack =
@@ -16,7 +16,7 @@ OnlyTheOwnerGivesBack =
     (key : Key) (number : ℕ) → (facility_at s.entities key).owner ≡ Some number →
     ((facility_at v.entities key).owner ≡ Some number) ⊎ IsActive s number
 
--- a facility that is given back goes to the first that waits for it, and is free where nobody does; behind a CLEAR all
+-- a facility that is given back goes to the first that waits for it, and is free where nobody does; after a CLEAR all
 -- are free
 abbrev pub TheFirstIsGivenIt : Type 0
 TheFirstIsGivenIt =

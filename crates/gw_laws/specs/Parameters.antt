@@ -34,7 +34,7 @@ ParametersAreOnesOwn =
 abbrev pub SetsAtMostOne : List (Key × ℤ) → List (Key × ℤ) → Type 0
 SetsAtMostOne before after = (after ≡ before) ⊎ ((key : Key) × (value : ℤ) × (after ≡ with_value before key value))
 
--- in a step one parameter is set at most, of whoever was there before and lives behind it. (Within the step limit, since
+-- in a step one parameter is set at most, of whoever was there before and lives after it. (Within the step limit, since
 -- numbers tell transactions apart there.)
 abbrev pub OneParameterIsSet : Type 0
 OneParameterIsSet =

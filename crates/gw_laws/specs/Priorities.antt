@@ -9,7 +9,7 @@ use Rattle.gw_model.specs.Well.{Well}
 use Rattle.gw_laws.specs.Living.{living, IsActive}
 
 -- in a step no priority and no mark time change but those of the active transaction: wherever another one stands before
--- and behind the step, both are the same. (Within the step limit, since numbers tell transactions apart there.)
+-- and after the step, both are the same. (Within the step limit, since numbers tell transactions apart there.)
 abbrev pub PrioritiesAreOnesOwn : Type 0
 PrioritiesAreOnesOwn =
     (t : Listing) (seed n : ℕ) (s v : Machine) → Well t → n ≤ t.limit →

@@ -108,8 +108,8 @@ EachLinkIsFifo t =
 abbrev pub IsAtMostTheActive : Machine → List Transaction → Type 0
 IsAtMostTheActive s come = (come ≡ []) ⊎ ((x : Transaction) × (come ≡ x ∷ []) × IsActive s x.number)
 
--- then each user chain is first in, first out: the first ones go, those behind them keep their order, and at most the
--- one who was active comes behind these
+-- then each user chain is first in, first out: the first ones go, those after them keep their order, and at most the
+-- one who was active comes after these
 abbrev pub UserChainsAreFirstInFirstOut : Type 0
 UserChainsAreFirstInFirstOut =
     (t : Listing) (seed : ℕ) (s v : Machine) → EachLinkIsFifo t → step t seed s ≡ Ok v → (key : Key) →

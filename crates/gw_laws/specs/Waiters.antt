@@ -56,7 +56,7 @@ abbrev pub IsAtMostTheActive : Option Transaction → List Waiter → Type 0
 IsAtMostTheActive active come =
     (come ≡ []) ⊎ ((w : Waiter) × (come ≡ w ∷ []) × (active ≡ Some w.transaction))
 
--- in a step some wait on, in the order in which they were there, and behind these comes at most the one who was active,
+-- in a step some wait on, in the order in which they were there, and after these comes at most the one who was active,
 -- as it was
 abbrev pub WaitersKeepTheirOrder : Type 0
 WaitersKeepTheirOrder =
@@ -82,7 +82,7 @@ WokenByWhatIsWritten =
     × (is_woken (written s m) w ≡ false → Waits v w)
 
 -- whoever waits tried a TEST or a GATE without a label: the block of its destination where it has one, and else the one
--- behind its own
+-- after its own
 abbrev pub WhoWaitsIsAtATestOrAGate : Type 0
 WhoWaitsIsAtATestOrAGate =
     (t : Listing) (seed n : ℕ) (s : Machine) → run t seed n ≡ Ok s →
@@ -100,7 +100,7 @@ abbrev pub HasToWait : Machine → Transaction → Type 0
 HasToWait s x =
     (y : Transaction) × Contains (waiting s.delays ++ transactions_of s.retry) y × (y.number ≡ x.number)
 
--- where the active one has to wait behind a step, all who waited wait on, in their order, and behind them at most that
+-- where the active one has to wait after a step, all who waited wait on, in their order, and after them at most that
 -- one. (Within the step limit, since numbers tell transactions apart there.)
 abbrev pub NobodyWakesWhereTheActiveHasToWait : Type 0
 NobodyWakesWhereTheActiveHasToWait =
@@ -256,7 +256,7 @@ abbrev pub Lasts : Bool → Listing → ℕ → Machine → Asker → Term → �
 Lasts resets t seed s q term x =
     ReadsWhatLasts resets t seed s q (value_of term) × ComesTo t seed (evaluated s q (value_of term)) x
 
--- w came to wait behind the moment m, and no RESET was done from there up to the moment n
+-- w came to wait after the moment m, and no RESET was done from there up to the moment n
 pub record WaitsSince (t : Listing) (seed m n : ℕ) (w : Waiter) : Type 0 where
   pub before : m ≤ n
   pub not_yet : (u : Machine) → run t seed m ≡ Ok u → Waits u w → ⊥

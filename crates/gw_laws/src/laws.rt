@@ -35,10 +35,10 @@ ghost use Rattle.gw_laws.specs.Waiters.{NobodyWakesWhereTheActiveHasToWait, WhoW
 ghost use Rattle.gw_laws.specs.Waiters.{NobodyWaitsAtAnOpenGate, NobodyWaitsAtATestThatHolds, TellingChangesNothing};
 
 /// The current chain is in order of priority. Of one priority, the first transactions leave it in a step, those that
-/// stay keep their order, and those that come stand behind them. Whoever becomes active was the first of all, and where
+/// stay keep their order, and those that come stand after them. Whoever becomes active was the first of all, and where
 /// none is active while a START is under way, the first becomes so. Where the clock moves on, all transactions of its
 /// new time come, in the order in which they came onto the future chain. On that chain, whoever stays in a step keeps
-/// his place, and whoever comes stands behind. Nobody leaves it but at his time, unless a CLEAR removes all.
+/// his place, and whoever comes stands after. Nobody leaves it but at his time, unless a CLEAR removes all.
 pub fn chain_in_order()
     ensures order { ChainIsInOrder }
     ensures turn { ChainIsFirstInFirstOut }
@@ -50,7 +50,7 @@ pub fn chain_in_order()
 {}
 
 /// Each delay chain is in order of priority. Of one priority, those that go on waiting keep their places in a step, and
-/// those that come stand behind them. Whoever waits has a block to go to. Whoever waits no longer stands on the current
+/// those that come stand after them. Whoever waits has a block to go to. Whoever waits no longer stands on the current
 /// chain, in that block. At a facility, the first leaves first: where its chain gets shorter, its first transaction has
 /// left it, and owns the facility. So it is where no CLEAR removes all. Nobody waits at a free facility.
 pub fn delays_in_order()
@@ -64,7 +64,7 @@ pub fn delays_in_order()
 {}
 
 /// Whoever waits at a TEST or a GATE for a change keeps his place in a step, and at most the one who was active comes,
-/// as it was, behind the others. Whoever read something that the step writes wakes, and is on the current chain then,
+/// as it was, after the others. Whoever read something that the step writes wakes, and is on the current chain then,
 /// and whoever did not, waits on, unless a CLEAR removes all. Of two of one priority whom a step wakes, the one who
 /// came first stands in front. The block to which whoever waits so goes is a TEST or a GATE without a label.
 pub fn waiters_wake_in_order()
@@ -89,7 +89,7 @@ pub fn user_chains_in_order()
 /// A transaction that enters a SPLIT stays active, and stands in its block. Each copy has a number of its own, in their
 /// order: so many are given as copies are made. It has the priority, the mark time, the block and the parameters of
 /// that transaction, and goes to the block of the SPLIT's label, or on from its own. It came to no queue. The copies
-/// stand on the current chain in the order of their numbers, behind all of their priority. A copy stands in its block
+/// stand on the current chain in the order of their numbers, after all of their priority. A copy stands in its block
 /// and is no entry of it.
 pub fn copies_are_made()
     ensures parent { TheParentStaysActive }
@@ -103,7 +103,7 @@ pub fn copies_are_made()
 {}
 
 /// The clock, a pick, a command and a refused attempt wake nobody. Where no transaction is active, where the active one
-/// has to wait, and wherever no block is entered, all who waited wait on, in their order, and behind them at most the
+/// has to wait, and wherever no block is entered, all who waited wait on, in their order, and after them at most the
 /// one who was active, unless a CLEAR removes all. Whoever wakes where a block is entered read something that changed:
 /// the counts of a block that is left or entered, by the active transaction or by one that is let in, the entity that
 /// the block names, or the user chain to which it links or from which it unlinks.
@@ -159,7 +159,7 @@ pub fn each_has_one_place()
     ensures one { EachHasOnePlace }
 {}
 
-/// The active transaction goes to its destination where it has one, and else to the block behind its own: in a step it
+/// The active transaction goes to its destination where it has one, and else to the block after its own: in a step it
 /// enters that block, waits to enter it, or waits as it came, at a TEST or a GATE without a label, for a change of
 /// something that it read. Whoever is on the current, the future or the retry chain stays in his block, with his
 /// destination.
@@ -206,7 +206,7 @@ pub fn facilities_are_used()
 {}
 
 /// Nobody but its owner gives a facility back. It goes to the first that waits for it, and is free where nobody does.
-/// Nobody but the active transaction takes one that was free before the step. Behind a CLEAR all are free.
+/// Nobody but the active transaction takes one that was free before the step. After a CLEAR all are free.
 pub fn facilities_have_owners()
     ensures gives { OnlyTheOwnerGivesBack }
     ensures given { TheFirstIsGivenIt }
@@ -252,8 +252,8 @@ pub fn items_are_told_apart()
     ensures { AnItemIsItself }
 {}
 
-/// Right behind a CLEAR the state is that before the first step, but for the streams and what is done of the commands.
-/// Behind a RESET each transaction stands where it stood, as it was; owners, contents, savevalues, switches, the clock,
+/// Right after a CLEAR the state is that before the first step, but for the streams and what is done of the commands.
+/// After a RESET each transaction stands where it stood, as it was; owners, contents, savevalues, switches, the clock,
 /// the next number and the streams stay, and each entity keeps its line in the report; entries, captures, times, the
 /// values of tables and the relative clock begin at 0, and the least and the greatest content are the present one.
 pub fn runs_begin_anew()
@@ -262,7 +262,7 @@ pub fn runs_begin_anew()
     ensures counts { ResetCountsAnew }
 {}
 
-/// A TABULATE brings one value to its table, behind the others, and changes no other entity.
+/// A TABULATE brings one value to its table, after the others, and changes no other entity.
 pub fn a_table_takes_one_value()
     ensures { TabulateAddsOneValue }
 {}

@@ -1,5 +1,5 @@
 //! What holds of every run from zero, whatever its version: laws above the definition of a step. What a law says of two
-//! moments it says where no CLEAR was done between them, behind which the state is that before the first step, but for
+//! moments it says where no CLEAR was done between them, after which the state is that before the first step, but for
 //! the streams and what is done of the commands. A RESET moves nobody.
 //!
 //! The current chain and each delay chain are in order of priority. Within a priority the current chain and those of

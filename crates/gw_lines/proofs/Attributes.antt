@@ -26,7 +26,7 @@ use Rattle.gw_lines.proofs.Digits.{mapped, number_found, number_again, from_one_
 
 -- ---- the word of a class
 
--- what stands behind the word of a class: the class alone decides how it is read, and digits make it no name
+-- what stands after the word of a class: the class alone decides how it is read, and digits make it no name
 record Behind (class : Class) (rest : List ℕ) : Type 0 where
   read : (of : Subject) → subject_of (scope_of class) rest ≡ Some of
       → attribute_in classes (class_word class ++ rest) ≡ Some (atoms.Attribute class of)
@@ -101,7 +101,7 @@ number_in_found most rest of e =
     let f = from_one_found (number_of most rest) m.0 m.1 in
     (m.0, number_found most rest m.0 f.0, f.1, m.2)
 
--- the name that a subject is, behind `$`
+-- the name that a subject is, after `$`
 name_in_found : (rest : List ℕ) (of : Subject) → name_in rest ≡ Some of
     → (word : List ℕ) × (name : List ℕ) × (rest ≡ 36 ∷ word) × (name_of word ≡ Some name) × (subjects.Name name ≡ of)
 name_in_found [] of e = absurd cc

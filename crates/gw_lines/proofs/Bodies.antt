@@ -122,7 +122,7 @@ bad_is (b ∷ bs) some = refl
 
 -- ---- the body
 
--- what a text says behind a verb
+-- what a text says after a verb
 pub record SaysBody (verb : Verb) (text : List ℕ) (body : Body) : Type 0 where
   pub auxiliary : Auxiliary
   pub is_auxiliary : auxiliary_of verb text ≡ Some auxiliary
@@ -138,7 +138,7 @@ body_fault_again (bad_operator verb text some e) = without_auxiliary verb text e
 body_fault_again (verb_to_come verb text beside is e) = with_auxiliary verb text is ∙ rw e refl
 body_fault_again (operand_fault verb text f beside is h) = with_auxiliary verb text is ∙ faulted_again h
 
--- a text says a body behind a verb, or has a first fault
+-- a text says a body after a verb, or has a first fault
 pub body_verdict : (verb : Verb) (text : List ℕ) → ((body : Body) × SaysBody verb text body) ⊎ ((f : LineFault) × BodyFault verb text f)
 body_verdict verb text =
     elim (some_auxiliary (auxiliary_of verb text)) [

@@ -67,7 +67,7 @@ word_read (b ∷ bs) rest word depth ps ts h =
     byte_read b (bs ++ rest) word depth ps ts a.0 ∙ word_read bs rest (word ++ b ∷ []) depth ps ts a.1
     ∙ ap (λ (w : List ℕ). outcome rest (reading w depth ps ts)) (append_assoc word (b ∷ []) bs)
 
--- a state behind an operand
+-- a state after an operand
 pub record IsBehind (s : State) : Type 0 where
   pub depth : ℕ
   pub pending : List Pending

@@ -57,7 +57,7 @@ more_lines (b ∷ bs) rest h k =
     line_on b (bs ++ 10 ∷ rest) (head_lacks 10 b bs h) (ap (λ x. x && begins_line_feed (bs ++ 10 ∷ rest)) (head_lacks 13 b bs k))
     ∙ ap (with_byte b) (more_lines bs rest (tail_lacks 10 b bs h) (tail_lacks 13 b bs k))
 
--- in front of a carriage return no line feed begins, but behind it
+-- in front of a carriage return no line feed begins, but after it
 feed_later : (bs rest : List ℕ) → Lacks 10 bs → begins_line_feed (bs ++ 13 ∷ 10 ∷ rest) ≡ false
 feed_later [] rest h = refl
 feed_later (b ∷ bs) rest h = head_lacks 10 b bs h

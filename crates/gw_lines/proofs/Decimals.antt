@@ -17,7 +17,7 @@ in_digits c h = grind (arith, nat_tests)
 value_is : (c : ℕ) → digit_value c < 10 → c - 48 ≡ digit_value c
 value_is c h = let e = digit_value_digit c (digit_from_value c h) in omega arith
 
--- digits behind others
+-- digits after others
 digits_on : (front : List ℕ) (n : ℕ) → Digits front n → (ds : List ℕ) → AllDigits 10 ds → Digits (front ++ ds) (digits_value_after 10 n ds)
 digits_on front n d [] h = subst (λ (t : List ℕ). Digits t n) (sym (append-nil front)) d
 digits_on front n d (c ∷ cs) h =

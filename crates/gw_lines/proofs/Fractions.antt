@@ -16,7 +16,7 @@ use Rattle.gw_lines.proofs.Results.{some, some_is}
 use Rattle.gw_lines.proofs.Fronts.{nonzero, front_again, rest_again, parts, rest_stops}
 use Rattle.gw_lines.proofs.Digits.{Begins, begins, number_on, number_found, number_taken}
 
--- ---- zeros behind digits
+-- ---- zeros after digits
 
 abbrev zeros : ℕ → List ℕ
 zeros zero = []

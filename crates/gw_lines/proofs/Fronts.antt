@@ -1,4 +1,4 @@
--- What stands at the front of a text, and what is left behind it.
+-- What stands at the front of a text, and what is left after it.
 use Rattle.std.proofs.Common.{◌≡◌, ◌≢◌, ℕ, suc, ◌+◌, ◌==◌, true, false, not, List, [], ◌∷◌, ◌++◌, length, refl, sym, ap, ◌∙◌, inl, inr, arith}
 use Rattle.std.specs.List.{prefix_len, list_all}
 use Rattle.std.proofs.lemmas.Bool.Decides.{nat_tests}
@@ -27,7 +27,7 @@ rest_yes class b bs h = rw (h, one_plus (prefix_len (is_in class) bs)) refl
 rest_no : (class : Class) (b : ℕ) (bs : List ℕ) → is_in class b ≡ false → rest_of class (b ∷ bs) ≡ b ∷ bs
 rest_no class b bs h = rw h refl
 
--- a byte of the class before the first piece, where the pieces behind that are a function of what it leaves
+-- a byte of the class before the first piece, where the pieces after that are a function of what it leaves
 pub put_before : (class : Class) (behind : List ℕ → List (List ℕ)) (b : ℕ) (bs : List ℕ) → is_in class b ≡ true
     → front_of class (b ∷ bs) ∷ behind (rest_of class (b ∷ bs)) ≡ with_byte b (front_of class bs ∷ behind (rest_of class bs))
 put_before class behind b bs h =

@@ -58,7 +58,7 @@ ends : (comment : List ℕ) → Stops class.Mark comment → listed_of false 0 c
 ends [] h = refl
 ends (b ∷ bs) h = blank_ends b bs (not-false (is_blank b) h)
 
--- a part is kept as it is, and what follows it is kept behind it
+-- a part is kept as it is, and what follows it is kept after it
 then_kept : {depth end : ℕ} {text kept : List ℕ} → Part depth text kept end → (rest : List ℕ)
     → listed_of false depth (text ++ rest) ≡ kept ++ listed_of false end rest
 then_kept (nothing depth) rest = refl
@@ -137,7 +137,7 @@ parted_of (word_operands blanks text kept h some w) =
 
 -- ---- what is kept so is written so
 
--- behind some open parentheses: what is left of the operand, and what follows
+-- after some open parentheses: what is left of the operand, and what follows
 data Inside : ℕ → List ℕ → List ℕ → Type 0 where
   last : (depth : ℕ) (text kept comment : List ℕ) → Part depth text kept 0 → Stops class.Mark comment
       → Inside depth (text ++ comment) kept
@@ -290,7 +290,7 @@ written_from (c ∷ cs) (b ∷ bs) rest kept e h s w =
 pub written_of : (text : List ℕ) → Stops class.Blank text → Written text (listed_of true 0 text)
 written_of text s = let o = (kept_so text).open_ in written_from text o.blanks o.rest (listed_of true 0 text) o.is o.are_blanks s o.written
 
--- what follows a word, from its blanks and what is left behind them
+-- what follows a word, from its blanks and what is left after them
 pub behind_of : (blanks text : List ℕ) → AreIn class.Blank blanks → Stops class.Mark (blanks ++ text) → Stops class.Blank text
     → Behind (blanks ++ text) (listed_of true 0 text)
 behind_of [] [] h m s = word_alone

@@ -50,7 +50,7 @@ pub behind_again : {behind kept : List ℕ} → Behind behind kept → Written (
 behind_again word_alone = none_written
 behind_again (word_operands blanks text kept h some w) = written_again w
 
--- ---- behind a verb's operator
+-- ---- after a verb's operator
 
 upper_text : (kept : List ℕ) → upper_of (behind_text kept) ≡ behind_text (upper_of kept)
 upper_text [] = refl

@@ -136,7 +136,7 @@ pub list_own : (text : List ℕ) → AllOwn (parts_of text) → Pass is_own text
 list_own [] h = refl
 list_own (b ∷ bs) h = split_own (b ∷ bs) h
 
--- ---- with a sign behind the first operand
+-- ---- with a sign after the first operand
 
 last_own : (xs : List ℕ) (k b : ℕ) → length xs ≡ suc k → slice_get xs k ≡ Some b → is_own b ≡ true → Pass is_own (take k xs) → Pass is_own xs
 last_own [] k b len get o h = absurd cc
@@ -248,7 +248,7 @@ behind_operator verb text operator e h =
     subst (Pass is_own) (sym whole) (both_pass is_own (word_of text) (blanks ++ list) (word_own verb (word_of text) operator e)
     (both_pass is_own blanks list (blanks_own blanks (front_all class.Blank rest)) (list_own list h)))
 
--- ---- the bytes of what is kept behind a verb
+-- ---- the bytes of what is kept after a verb
 
 sign_own : (verb : Verb) (text : List ℕ) → AllOwn (parts_of (signs.without_sign (signs.sign_of verb text) text)) → Pass is_own text
 sign_own verb text h =

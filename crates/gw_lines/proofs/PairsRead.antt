@@ -86,7 +86,7 @@ added count points {text} {p} h m = ap (with_point count points) (pair_again h) 
 
 -- ---- all pairs
 
--- the pairs behind the first, of what it leaves
+-- the pairs after the first, of what it leaves
 behind : (count : ℕ) (points : List Point) (texts : List (List ℕ)) (text front rest : List ℕ) (p : Point) (all : List Point) → text ≡ front ++ rest
     → Stops class.Pair rest → texts ≡ pieces_of class.Pair (tail_of rest) → Pair front p → may_follow count points p ≡ true
     → with_pairs count (points ++ p ∷ []) texts ≡ Ok all

@@ -1,4 +1,4 @@
--- The parts of an operand list: the first part and those behind it, and the operands that they are.
+-- The parts of an operand list: the first part and those after it, and the operands that they are.
 use Rattle.std.proofs.Common.{◌≡◌, ℕ, ◌+◌, ◌<◌, ◌≤◌, ◌==◌, not, Bool, true, false, List, [], ◌∷◌, ◌++◌, length, drop, get_or, Option, Some, None, Result, Ok, Err, refl, sym, ap, ◌∙◌, inl, inr, add-one, drop-cons, append_assoc}
 use Rattle.std.specs.Prelude.{if◌then◌else◌}
 use Rattle.std.proofs.lemmas.Bool.{cases_Bool}
@@ -14,14 +14,14 @@ use Rattle.gw_lines.specs.Parts.{split, parts_of, goes_on, part_of, others_of, i
 use Rattle.gw_lines.proofs.Results.{ok_is, or_memory}
 use Rattle.gw_lines.proofs.Fronts.{nonzero, put_before}
 
--- what is left behind the first part, where this stands behind it
+-- what is left after the first part, where this stands after it
 abbrev pub behind : List ℕ → List (List ℕ)
 behind rest = left (not (is_nothing rest)) (tail_of rest)
 
 pub split_on : (b : ℕ) (bs : List ℕ) → (b == 44) ≡ false → split (b ∷ bs) ≡ with_byte b (split bs)
 split_on b bs e = rw e refl
 
--- the first part of a text, and those behind it
+-- the first part of a text, and those after it
 pub split_first : (text : List ℕ)
     → split text ≡ front_of class.Operand text ∷ behind (rest_of class.Operand text)
 split_first [] = refl

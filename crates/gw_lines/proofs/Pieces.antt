@@ -10,7 +10,7 @@ use Rattle.gw_lines.proofs.Fronts.{put_before}
 one_more : (class : Class) (b : ℕ) (bs : List ℕ) → is_in class b ≡ true → pieces_of class (b ∷ bs) ≡ with_byte b (pieces_of class bs)
 one_more class b bs e = rw e refl
 
--- the pieces behind the first, of what it leaves
+-- the pieces after the first, of what it leaves
 abbrev behind : Class → List ℕ → List (List ℕ)
 behind class rest = pieces_of class (tail_of rest)
 
@@ -28,7 +28,7 @@ first_is class b (c ∷ cs) =
           one_more class b (c ∷ cs) part ∙ ap (with_byte b) (first_is class c cs) ∙ sym (put_before class (behind class) b (c ∷ cs) part)
     ]
 
--- the first piece of a text that is not empty, and the pieces behind it
+-- the first piece of a text that is not empty, and the pieces after it
 pub first_part : (class : Class) (text : List ℕ) → text ≢ []
     → pieces_of class text ≡ front_of class text ∷ pieces_of class (tail_of (rest_of class text))
 first_part class [] some = absurd (some refl)

@@ -277,7 +277,7 @@ abbrev AreTexts : List (List ℕ) → Type 0
 AreTexts [] = Unit {0}
 AreTexts (text ∷ texts) = Pass is_own text × (text ≢ []) × AreTexts texts
 
--- the lines behind a statement's first one, as they are listed
+-- the lines after a statement's first one, as they are listed
 record BehindFirst (s t : Statement) : Type 0 where
   texts : List (List ℕ)
   are_texts : AreTexts texts

@@ -207,7 +207,7 @@ operand_again (a_bound text o other s) = bound_again text o other (operand_again
 
 -- ---- one part
 
--- a part that is not listed is the empty one behind the last
+-- a part that is not listed is the empty one after the last
 unlisted : (presence : Presence) (parts : List (List ℕ)) → is_listed presence (goes_on parts) ≡ false
     → (presence ≡ presences.Written) × (parts ≡ [])
 unlisted presences.Written [] e = (refl, refl)

@@ -29,7 +29,7 @@ is_high Sum = true
 is_high Product = true
 is_high Factor = false
 
--- what waits, in so much room and behind so many open parentheses, with the text before the operand and its tokens
+-- what waits, in so much room and after so many open parentheses, with the text before the operand and its tokens
 data Waits (most : ℕ) : Rank → ℕ → ℕ → List Pending → List ℕ → List Token → Type 0 where
   outermost : (depth : ℕ) → most + depth ≡ 32 → Waits most Sum most depth [] [] []
   within : (rank : Rank) (room depth : ℕ) (ps : List Pending) (text : List ℕ) (ts : List Token)
@@ -52,7 +52,7 @@ rooms (behind_sum room depth ps text ts left e b o w s a) = rooms w
 rooms (behind_product rank room depth ps text ts left e b o h w s m) = rooms w
 rooms (behind_sign rank room depth ps text ts w) = rooms w
 
--- behind a product, up to which the text and the tokens go
+-- after a product, up to which the text and the tokens go
 record Stands (most : ℕ) (room depth : ℕ) (ps : List Pending) (text : List ℕ) (ts : List Token) : Type 0 where
   rank : Rank
   high : is_high rank ≡ true
@@ -65,7 +65,7 @@ record Stands (most : ℕ) (room depth : ℕ) (ps : List Pending) (text : List �
   text_is : text ≡ first ++ left
   tokens_is : ts ≡ so_far ++ postfix e
 
--- behind a sum
+-- after a sum
 record Sums (most : ℕ) (room depth : ℕ) (ps : List Pending) (text : List ℕ) (ts : List Token) : Type 0 where
   first : List ℕ
   so_far : List Token
@@ -205,7 +205,7 @@ settles {most} {room} {depth} {ps} {text} {ts} s =
 
 -- ---- where reading stands
 
--- with no word begun: before an operand, or behind one
+-- with no word begun: before an operand, or after one
 data Clean (most : ℕ) : State → List ℕ → Type 0 where
   clean_before : (rank : Rank) (room depth : ℕ) (ps : List Pending) (text : List ℕ) (ts : List Token)
       → Waits most rank room depth ps text ts → Clean most (before depth ps ts) text

@@ -92,7 +92,7 @@ all_is ss ts e = cc
 faulty_same : (d e : FaultyLine) → faulty d ≡ faulty e → d ≡ e
 faulty_same d e h = cc
 
--- what lines give behind a statement whose first line is the one with this number
+-- what lines give after a statement whose first line is the one with this number
 abbrev after : ℕ → Statement → ℕ → List (List ℕ) → Result (List Statement) FaultyLine
 after number s n lines = statements_of (begun number s) n lines >>= λ others. all (done_of (Some (at number s)) ++ others)
 
@@ -110,7 +110,7 @@ after_open : (number : ℕ) (s : Statement) (n : ℕ) (lines : List (List ℕ)) 
     → after number s n lines ≡ statements_of (Some (at number s)) n lines
 after_open number s n lines wants = rw wants (same_again (statements_of (Some (at number s)) n lines))
 
--- a further line, and those behind it
+-- a further line, and those after it
 line_gives : (number : ℕ) (s t : Statement) (n : ℕ) (line : List ℕ) (lines : List (List ℕ)) → further_of s line ≡ Ok t
     → statements_of (Some (at number s)) n (line ∷ lines) ≡ after number t (n + 1) lines
 line_gives number s t n line lines e = rw e refl
@@ -119,7 +119,7 @@ line_goes_on : (number : ℕ) (s t : Statement) (n : ℕ) (line : List ℕ) (lin
     → after number s n (line ∷ lines) ≡ after number t (n + 1) lines
 line_goes_on number s t n line lines wants e = after_open number s n (line ∷ lines) wants ∙ line_gives number s t n line lines e
 
--- a first line, and those behind it
+-- a first line, and those after it
 first_gives : (s : Statement) (n : ℕ) (line : List ℕ) (lines : List (List ℕ)) → line_of line ≡ Ok (Some s)
     → statements_of None n (line ∷ lines) ≡ after n s (n + 1) lines
 first_gives s n line lines e = rw e refl
@@ -155,7 +155,7 @@ lines_again (statement_lines own lines s ss (spells_lines line more head t spell
 
 -- ---- what is read is spelled so
 
--- lines that complete a statement, and those behind them
+-- lines that complete a statement, and those after them
 record Found (s : Statement) (lines : List (List ℕ)) (ss : List Statement) : Type 0 where
   own : List (List ℕ)
   rest : List (List ℕ)
@@ -166,7 +166,7 @@ record Found (s : Statement) (lines : List (List ℕ)) (ss : List Statement) : T
   of_rest : OfLines rest others
   all_are : done_is ∷ others ≡ ss
 
--- what was found behind a line, with the line
+-- what was found after a line, with the line
 found_on : (s more : Statement) (line : List ℕ) (lines : List (List ℕ)) (ss : List Statement)
     → ((own : List (List ℕ)) (t : Statement) → Completes more own t → Completes s (line ∷ own) t) → Found more lines ss → Found s (line ∷ lines) ss
 found_on s more line lines ss on f = record {

@@ -1,4 +1,4 @@
--- Numerical attributes as they are read: the word of a class, and behind it what the attribute is of. (Manual; the
+-- Numerical attributes as they are read: the word of a class, and after it what the attribute is of. (Manual; the
 -- forms of the profile. The greatest number is our own.)
 use Rattle.std.specs.Prelude.{ℕ, ◌==◌, List, [], ◌∷◌, length, drop, Option, Some, None, option_map, if◌then◌else◌, nat_eq}
 use Rattle.std.specs.List.{starts_with}
@@ -63,7 +63,7 @@ abbrev pub or_name : Option Subject → List ℕ → Option Subject
 or_name None text = name_in text
 or_name (Some of) text = Some of
 
--- the subject that a text is behind the word of a class
+-- the subject that a text is after the word of a class
 abbrev pub subject_of : Scope → List ℕ → Option Subject
 subject_of scopes.Alone text = own_in text
 subject_of scopes.Entity text = or_name (number_in 1000000000 text) text

@@ -1,4 +1,4 @@
--- What stands beside the operands of a verb: the operator in front of them, or the sign behind the first of them, which
+-- What stands beside the operands of a verb: the operator in front of them, or the sign after the first of them, which
 -- is the last byte of that operand, where another stands before it. (Manual; that a sign alone is none is our own.)
 use Rattle.std.specs.Prelude.{◌≡◌, ℕ, ◌-◌, ◌==◌, not, Bool, true, false, List, [], ◌∷◌, ◌++◌, length, take, find, Option, Some, None, slice_get, nat_lt, if◌then◌else◌, codes}
 use Rattle.std.specs.Str.{bytes_eq}
@@ -75,7 +75,7 @@ abbrev pub sign_in : Option ℕ → Auxiliary
 sign_in None = auxiliaries.Absent
 sign_in (Some b) = if b == 43 then auxiliaries.Plus else if b == 45 then auxiliaries.Minus else auxiliaries.Absent
 
--- the sign behind the first operand of a list
+-- the sign after the first operand of a list
 abbrev pub sign_of : Verb → List ℕ → Auxiliary
 sign_of verb text = if takes_sign verb then sign_in (last_byte (front_of class.Operand text)) else auxiliaries.Absent
 

@@ -112,7 +112,7 @@ or_operator_fault text (Some auxiliary) = Ok auxiliary
 abbrev pub read_auxiliary : Verb → List ℕ → Result Auxiliary LineFault
 read_auxiliary verb text = or_operator_fault text (auxiliary_of verb text)
 
--- the body that a text is behind a verb: its operator or its sign is taken off before the operands are read
+-- the body that a text is after a verb: its operator or its sign is taken off before the operands are read
 unfoldable pub body_of : Verb → List ℕ → Result Body LineFault
 body_of verb text = do
   auxiliary ← read_auxiliary verb text

@@ -25,7 +25,7 @@ is_in class.Pair b = not (b == 47)
 abbrev pub front_of : Class → List ℕ → List ℕ
 front_of class bytes = take (prefix_len (is_in class) bytes) bytes
 
--- what is left behind it
+-- what is left after it
 abbrev pub rest_of : Class → List ℕ → List ℕ
 rest_of class bytes = drop (prefix_len (is_in class) bytes) bytes
 

@@ -62,15 +62,15 @@ abbrev pub is_missing : LineFault → Bool
 is_missing (faults.MissingOperand n) = true
 is_missing f = false
 
--- whether a line's missing operand is the fault: no further line stands behind it, or its verb is FUNCTION and those
--- behind it may be pairs
+-- whether a line's missing operand is the fault: no further line stands after it, or its verb is FUNCTION and those
+-- after it may be pairs
 pub data MayMiss : List ℕ → List (List ℕ) → Type 0 where
   no_further : (line : List ℕ) → MayMiss line []
   pairs_behind : (line : List ℕ) (further : List (List ℕ)) → names_function line ≡ true → MayBePairs further
       → MayMiss line further
 
 -- the first fault of lines: length and bytes of any line, then the first line from left to right, then pairs that are
--- bad or missing, and further lines that no statement wants, then a missing operand. Behind a FUNCTION that misses one,
+-- bad or missing, and further lines that no statement wants, then a missing operand. After a FUNCTION that misses one,
 -- pairs are bad where they would be with any count
 pub data FaultOfLines : List (List ℕ) → LineFault → Type 0 where
   no_line : FaultOfLines [] faults.UnknownVerb
@@ -112,7 +112,7 @@ plain_further (line ∷ lines) = do
   plain ← byte_fault (kept_of line)
   plain_further lines
 
--- the same of the lines behind the first, which tells its own as it is read
+-- the same of the lines after the first, which tells its own as it is read
 abbrev pub plain_behind : List (List ℕ) → Result (Unit {0}) LineFault
 plain_behind [] = Ok tt
 plain_behind (line ∷ further) = plain_further further
@@ -124,17 +124,17 @@ completed_by s (line ∷ lines) = if wants_pairs s then (do
   more ← further_of s line
   completed_by more lines) else Err faults.BadPairs
 
--- the fault of further lines behind one that misses an operand, if they have one
+-- the fault of further lines after one that misses an operand, if they have one
 abbrev pub may_miss : List ℕ → List (List ℕ) → Result (Unit {0}) LineFault
 may_miss line further = if length further == 0 then Ok tt
     else (if names_function line then open_lines [] further else Err faults.BadPairs)
 
--- the fault of the first line: a missing operand comes last, behind that of further lines
+-- the fault of the first line: a missing operand comes last, after that of further lines
 abbrev pub followed : Result (Unit {0}) LineFault → LineFault → LineFault
 followed (Err bad) (faults.MissingOperand n) = bad
 followed may_miss f = f
 
--- what the first line gives, with those behind it
+-- what the first line gives, with those after it
 abbrev pub behind_first : List ℕ → List (List ℕ) → Result Statement LineFault → Result Statement LineFault
 behind_first line further (Ok s) = completed_by s further
 behind_first line further (Err f) = Err (followed (may_miss line further) f)

@@ -28,18 +28,18 @@ pub record State : Type 0 where
 abbrev pub before : ℕ → List Pending → List Token → State
 before depth pending ts = record { word = []; given = false; depth = depth; pending = pending; tokens = ts }
 
--- behind one
+-- after one
 abbrev pub behind : ℕ → List Pending → List Token → State
 behind depth pending ts = record { word = []; given = true; depth = depth; pending = pending; tokens = ts }
 
--- behind an operand, whose signs and product are done with: they bind tighter than a sum
+-- after an operand, whose signs and product are done with: they bind tighter than a sum
 abbrev pub completed : ℕ → List Pending → List Token → State
 completed depth [] ts = behind depth [] ts
 completed depth (waits.Sign ∷ pending) ts = completed depth pending (ts ++ tokens.Negated ∷ [])
 completed depth (waits.Product operator ∷ pending) ts = behind depth pending (ts ++ tokens.Applied operator ∷ [])
 completed depth (wait ∷ pending) ts = behind depth (wait ∷ pending) ts
 
--- behind a product, whose sum is done with
+-- after a product, whose sum is done with
 abbrev pub settled : ℕ → List Pending → List Token → State
 settled depth (waits.Sum operator ∷ pending) ts = behind depth pending (ts ++ tokens.Applied operator ∷ [])
 settled depth pending ts = behind depth pending ts
@@ -57,11 +57,11 @@ taken_by false (b ∷ bs) s = with_atom (atom_of (b ∷ bs)) s
 abbrev pub taken : State → Option State
 taken s = taken_by s.given s.word s
 
--- behind the operator of a sum
+-- after the operator of a sum
 abbrev pub added : Operator → State → State
 added operator s = before s.depth (waits.Sum operator ∷ s.pending) s.tokens
 
--- behind a closing parenthesis
+-- after a closing parenthesis
 abbrev pub closed : ℕ → List Pending → List Token → Option State
 closed depth (waits.Opening ∷ pending) ts = Some (completed (shallower depth) pending ts)
 closed depth pending ts = None
@@ -69,11 +69,11 @@ closed depth pending ts = None
 abbrev pub closed_in : State → Option State
 closed_in s = closed s.depth s.pending s.tokens
 
--- behind an opening one: 32 of them may be open at once
+-- after an opening one: 32 of them may be open at once
 abbrev pub opened : State → Option State
 opened s = if nat_lt s.depth 32 then Some (before (suc s.depth) (waits.Opening ∷ s.pending) s.tokens) else None
 
--- behind a symbol, where an operand is complete and where none is
+-- after a symbol, where an operand is complete and where none is
 abbrev pub by_symbol : Symbol → Bool → State → Option State
 by_symbol symbols.Opening false s = opened s
 by_symbol (symbols.Sum operators.Minus) false s = Some (before s.depth (waits.Sign ∷ s.pending) s.tokens)
@@ -99,11 +99,11 @@ abbrev pub by_kind : Option Symbol → ℕ → State → Option State
 by_kind None b s = Some (with_byte b s)
 by_kind (Some symbol) b s = option_and_then (with_symbol symbol) (taken s)
 
--- behind a byte
+-- after a byte
 abbrev pub step : ℕ → State → Option State
 step b s = by_kind (symbol_of b) b s
 
--- behind a text
+-- after a text
 abbrev pub run : List ℕ → State → Option State
 run [] s = Some s
 run (b ∷ bs) s = option_and_then (λ t. run bs t) (step b s)
@@ -120,7 +120,7 @@ ended_by true s = all_closed s.pending s.tokens
 abbrev pub ended : State → Option (List Token)
 ended s = ended_by s.given (settled s.depth s.pending s.tokens)
 
--- the tokens that a text is, behind so many open parentheses
+-- the tokens that a text is, after so many open parentheses
 unfoldable pub tokens_of : ℕ → List ℕ → Option (List Token)
 tokens_of depth text =
     option_and_then ended (option_and_then taken (run text (before depth [] [])))

@@ -3,7 +3,7 @@ use Rattle.std.specs.Prelude.{ℕ, List, [], ◌++◌, Option, Some, None, codes
 use Rattle.gw_lines.specs.declared.fault.LineFault.{LineFault}
 use Rattle.gw_lines.specs.declared.fault.LineFault.TheVariants.{TooLong, BadByte, UnknownVerb, BadLabel, BadOperand, MissingOperand, ExtraOperand, BadPairs, Memory}
 
--- the number that is printed behind an L
+-- the number that is printed after an L
 abbrev pub number_of : LineFault → ℕ
 number_of TooLong = 1
 number_of BadByte = 2

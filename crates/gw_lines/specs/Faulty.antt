@@ -76,7 +76,7 @@ pub data OperandFault : Verb → Auxiliary → List (List ℕ) → LineFault →
       → forms_of verb beside (is_given parts) ≡ Some forms → SpellsAll forms parts os → misfits verb os ≡ false
       → lacks verb os ≡ true → OperandFault verb beside parts (faults.MissingOperand 1)
 
--- the first fault of what is kept behind a verb: that of its operator, which is operand 0, then that of its operands
+-- the first fault of what is kept after a verb: that of its operator, which is operand 0, then that of its operands
 pub data BodyFault : Verb → List ℕ → LineFault → Type 0 where
   no_operator : (verb : Verb) → takes_operator verb ≡ true → BodyFault verb [] (faults.MissingOperand 0)
   bad_operator : (verb : Verb) (text : List ℕ) → text ≢ [] → auxiliary_of verb text ≡ None

@@ -167,7 +167,7 @@ value v = option_map (λ t. operands.Value t) v
 abbrev pub whole : Option ℕ → Option Operand
 whole v = option_map (λ n. operands.Whole n) v
 
--- the operands that a definition has: a FUNCTION's points stand behind them
+-- the operands that a definition has: a FUNCTION's points stand after them
 abbrev pub fields_of_definition : Definition → List (Option Operand)
 fields_of_definition (definitions.Storage capacity) = Some (operands.Whole capacity) ∷ []
 fields_of_definition (definitions.Equ z) = Some (operands.Value (Value (atoms.Constant z))) ∷ []

@@ -50,11 +50,11 @@ plain_of text = if are_plain text then Ok text else Err faults.BadByte
 unfoldable pub operands_of : List ℕ → Result (List ℕ) LineFault
 operands_of bytes = plain_of (upper_of (listed_of true 0 bytes))
 
--- an operator and the operand list behind it, with one blank between
+-- an operator and the operand list after it, with one blank between
 abbrev pub kept_with_operator : List ℕ → List ℕ
 kept_with_operator bytes = word_of bytes ++ behind_text (listed_of true 0 (behind_word bytes))
 
--- what is kept of what stands behind a verb and its blanks
+-- what is kept of what stands after a verb and its blanks
 abbrev pub kept_behind : Verb → List ℕ → List ℕ
 kept_behind verb bytes = if takes_operator verb then kept_with_operator bytes else listed_of true 0 bytes
 
@@ -103,7 +103,7 @@ behind_number code =
     if is_nothing (front_of class.Digit code) || is_nothing (front_of class.Blank (rest_of class.Digit code)) then code
     else rest_of class.Blank (rest_of class.Digit code)
 
--- a line without the blanks before it and the comment behind its `;`
+-- a line without the blanks before it and the comment after its `;`
 unfoldable pub code_of : List ℕ → List ℕ
 code_of line = front_of class.Code (rest_of class.Blank line)
 

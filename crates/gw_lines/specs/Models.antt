@@ -32,7 +32,7 @@ abbrev pub numbered : {X : Type 0} → ℕ → Result X LineFault → Result X F
 numbered line (Ok x) = Ok x
 numbered line (Err f) = Err (record { line = line; fault = f })
 
--- the statement that stands behind a line: that of the line, or the one under way with the line's pairs
+-- the statement that stands after a line: that of the line, or the one under way with the line's pairs
 abbrev pub with_line : Option Unfinished → ℕ → List ℕ → Result (Option Unfinished) FaultyLine
 with_line None number line = do
   statement ← numbered number (line_of line)
@@ -56,7 +56,7 @@ abbrev pub ended : Option Unfinished → List Statement → Result (List Stateme
 ended None statements = Ok statements
 ended (Some under) statements = Err (record { line = under.line; fault = faults.BadPairs })
 
--- the statements of lines, the first of which has this number, behind the one that is under way
+-- the statements of lines, the first of which has this number, after the one that is under way
 abbrev pub statements_of : Option Unfinished → ℕ → List (List ℕ) → Result (List Statement) FaultyLine
 statements_of under number [] = ended under []
 statements_of under number (line ∷ lines) = do

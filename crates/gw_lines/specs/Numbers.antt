@@ -4,7 +4,7 @@ use Rattle.std.specs.Char.{is_ascii_digit}
 use Rattle.gw_lines.specs.declared.class.Class.TheVariants as class
 use Rattle.gw_lines.specs.Classes.{front_of, rest_of, is_nothing, tail_of}
 
--- the number that digits spell behind those of n, if it is at most `most`
+-- the number that digits spell after those of n, if it is at most `most`
 abbrev pub number_after : ℕ → ℕ → List ℕ → Option ℕ
 number_after most n [] = Some n
 number_after most n (b ∷ bs) =
@@ -30,18 +30,18 @@ abbrev pub from_one : Option ℕ → Option ℕ
 from_one None = None
 from_one (Some n) = if n == 0 then None else Some n
 
--- the number that digits spell behind those of another
+-- the number that digits spell after those of another
 abbrev pub number_then : ℕ → Option ℕ → List ℕ → Option ℕ
 number_then most None text = None
 number_then most (Some n) text = number_after most n text
 
 -- whether a text has a point, something else besides, and six places at most: what begins with the point is handed in,
--- and what stands behind it
+-- and what stands after it
 abbrev pub is_pointed : List ℕ → List ℕ → List ℕ → Bool
 is_pointed text point decimals =
     not (is_nothing point) && (nat_lt 1 (length text) && nat_le (length decimals) 6)
 
--- the millionths that digits before and behind a point spell: the digits with zeros behind them, up to six places
+-- the millionths that digits before and after a point spell: the digits with zeros after them, up to six places
 abbrev pub millionths_of : ℕ → List ℕ → List ℕ → Option ℕ
 millionths_of most whole decimals =
     number_then most (number_then most (number_after most 0 whole) decimals)

@@ -148,7 +148,7 @@ abbrev pub missing_after : Option ℕ → Form → ℕ → List ℕ → Option �
 missing_after (Some first) form n part = Some first
 missing_after None form n part = if is_missing form part then Some n else None
 
--- whether parts stand behind those that have a form
+-- whether parts stand after those that have a form
 abbrev pub has_more : List Form → List (List ℕ) → Bool
 has_more [] parts = goes_on parts
 has_more (form ∷ forms) parts = has_more forms (others_of parts)

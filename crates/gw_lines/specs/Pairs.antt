@@ -42,35 +42,35 @@ abbrev pub is_above : Option Point → ℤ → Bool
 is_above None x = true
 is_above (Some last) x = is_below last.x x
 
--- whether a point may stand behind others: they are less than count, and its x is above the last one's
+-- whether a point may stand after others: they are less than count, and its x is above the last one's
 abbrev pub may_follow : ℕ → List Point → Point → Bool
 may_follow count points p = nat_lt (length points) count && is_above (last_of points) p.x
 
--- points with one behind them
+-- points with one after them
 abbrev pub with_point : ℕ → List Point → Option Point → Result (List Point) LineFault
 with_point count points None = Err faults.BadPairs
 with_point count points (Some p) = if may_follow count points p then Ok (points ++ p ∷ []) else Err faults.BadPairs
 
--- points with those of pairs behind them
+-- points with those of pairs after them
 abbrev pub with_pairs : ℕ → List Point → List (List ℕ) → Result (List Point) LineFault
 with_pairs count points [] = Ok points
 with_pairs count points (text ∷ texts) = do
   more ← with_point count points (pair_of text)
   with_pairs count more texts
 
--- points with those that a text spells behind them: `/` ends a pair, and the last may lack it
+-- points with those that a text spells after them: `/` ends a pair, and the last may lack it
 unfoldable pub points_with : ℕ → List Point → List ℕ → Result (List Point) LineFault
 points_with count points text =
     if is_nothing text then Err faults.BadPairs else with_pairs count points (pieces_of class.Pair text)
 
--- a body with the points of a text behind its own, if it has points
+-- a body with the points of a text after its own, if it has points
 abbrev pub body_with : Body → List ℕ → Result Body LineFault
 body_with (bodies.Definition (definitions.Function function)) text = do
   points ← points_with function.count function.points text
   Ok (bodies.Definition (definitions.Function (record function { points = points })))
 body_with body text = Err faults.BadPairs
 
--- a statement with the pairs of a text: its operands are listed with `|` and the text behind them
+-- a statement with the pairs of a text: its operands are listed with `|` and the text after them
 unfoldable pub statement_with : Statement → List ℕ → Result Statement LineFault
 statement_with s text = do
   body ← body_with s.body text

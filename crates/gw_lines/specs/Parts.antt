@@ -28,7 +28,7 @@ part_of (part ∷ parts) = part
 abbrev pub is_given : List (List ℕ) → Bool
 is_given parts = not (is_nothing (part_of parts))
 
--- the parts behind it
+-- the parts after it
 abbrev pub others_of : {X : Type 0} → List X → List X
 others_of [] = []
 others_of (x ∷ xs) = xs

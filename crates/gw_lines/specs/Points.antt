@@ -28,8 +28,8 @@ pub data Coordinate : List ℕ → ℤ → Type 0 where
 pub data Pair : List ℕ → Point → Type 0 where
   a_pair : (x y : List ℕ) (p : Point) → Coordinate x p.x → Coordinate y p.y → Pair (x ++ 44 ∷ y) p
 
--- pairs with `/` between, and behind the last or not; the points before them, and those with theirs. Each may stand
--- behind those before it: there is room for it, and its x is above the last one's
+-- pairs with `/` between, and after the last or not; the points before them, and those with theirs. Each may stand
+-- after those before it: there is room for it, and its x is above the last one's
 pub data Pairs : ℕ → List Point → List ℕ → List Point → Type 0 where
   last_pair : (count : ℕ) (points : List Point) (text : List ℕ) (p : Point) → Pair text p
       → may_follow count points p ≡ true → Pairs count points text (points ++ p ∷ [])
@@ -54,8 +54,8 @@ pub record HasText (line text : List ℕ) : Type 0 where
   pub written : Written code kept
   pub upper : text ≡ upper_of kept
 
--- a line's pairs make of a statement another: a FUNCTION with their points behind its own, whose operands are listed
--- with `|` and the pairs behind them
+-- a line's pairs make of a statement another: a FUNCTION with their points after its own, whose operands are listed
+-- with `|` and the pairs after them
 pub record HasPairs (s : Statement) (line : List ℕ) (t : Statement) : Type 0 where
   pub text : List ℕ
   pub has_text : HasText line text
@@ -70,7 +70,7 @@ pub record HasPairs (s : Statement) (line : List ℕ) (t : Statement) : Type 0 w
     operands = s.operands ++ 124 ∷ text;
   }
 
--- the lines behind a statement's first one make of it a statement that wants no pairs; the last of them has pairs
+-- the lines after a statement's first one make of it a statement that wants no pairs; the last of them has pairs
 pub data Completes : Statement → List (List ℕ) → Statement → Type 0 where
   complete : (s : Statement) → wants_pairs s ≡ false → Completes s [] s
   past_remark : (s : Statement) (line : List ℕ) (lines : List (List ℕ)) (t : Statement) → wants_pairs s ≡ true

@@ -64,7 +64,7 @@ pub data Value : List ℕ → ℤ → Type 0 where
   without_sign : (text : List ℕ) (n : ℕ) → Number 1000000000 text n → Value text (pos n)
   with_sign : (text : List ℕ) (n : ℕ) → Number 1000000000 text n → Value (45 ∷ text) (neg_ℤ (pos n))
 
--- a fraction, in millionths: digits with a point, of which at most six behind it, and not too large
+-- a fraction, in millionths: digits with a point, of which at most six after it, and not too large
 pub record Fraction (most : ℕ) (text : List ℕ) (millionths : ℕ) : Type 0 where
   pub whole : List ℕ
   pub decimals : List ℕ
@@ -75,7 +75,7 @@ pub record Fraction (most : ℕ) (text : List ℕ) (millionths : ℕ) : Type 0 w
   pub value : millionths ≡ number * 10 ^ (6 - length decimals)
   pub small : millionths ≤ most
 
--- a numerical attribute: the word of its class alone, with a number behind it, or with `$` and a name
+-- a numerical attribute: the word of its class alone, with a number after it, or with `$` and a name
 pub data SpellsAttribute : List ℕ → attributes.Class → Subject → Type 0 where
   alone : (class : attributes.Class) → scope_of class ≡ scopes.Alone
       → SpellsAttribute (class_word class) class subjects.Own
@@ -106,7 +106,7 @@ pub data Adds : ℕ → Operator → Type 0 where
   plus : Adds 43 operators.Plus
   minus : Adds 45 operators.Minus
 
--- what a text may be in an expression: each may be the one behind it
+-- what a text may be in an expression: each may be the one after it
 pub data Rank : Type 0 where
   Factor : Rank
   Product : Rank
@@ -176,7 +176,7 @@ pub data SpellsOperand : Kind → List ℕ → Option Operand → Type 0 where
   a_bound : (text : List ℕ) (o : Option Operand) → text ≢ codes "ALL" → SpellsOperand kinds.Value text o
       → SpellsOperand kinds.Bound text o
 
--- the parts of a list spell the operands of its forms: each is listed, or a written one behind the last part is not
+-- the parts of a list spell the operands of its forms: each is listed, or a written one after the last part is not
 pub data SpellsAll : List Form → List (List ℕ) → List (Option Operand) → Type 0 where
   no_form : SpellsAll [] [] []
   stands : (form : Form) (forms : List Form) (parts : List (List ℕ)) (o : Option Operand) (os : List (Option Operand))
@@ -217,7 +217,7 @@ pub data Part : ℕ → List ℕ → List ℕ → ℕ → Type 0 where
   inner_blank : (depth b : ℕ) (text kept : List ℕ) (end : ℕ) → is_blank b ≡ true → Part (suc depth) text kept end
       → Part (suc depth) (b ∷ text) kept end
 
--- an operand list as it is written, with the comment behind it, and as it is kept, without the blanks behind commas and
+-- an operand list as it is written, with the comment after it, and as it is kept, without the blanks after commas and
 -- in parentheses; one that is never closed has all that follows
 pub data Written : List ℕ → List ℕ → Type 0 where
   none_written : Written [] []
@@ -234,7 +234,7 @@ pub data Behind : List ℕ → List ℕ → Type 0 where
       → Behind (blanks ++ text) kept
 
 -- what follows a verb, and what is kept of it: operands, or, where the verb takes an operator, a word and operands
--- behind it, which are kept with one blank between
+-- after it, which are kept with one blank between
 pub data Follows : Verb → List ℕ → List ℕ → Type 0 where
   without_operator : (verb : Verb) (behind kept : List ℕ) → takes_operator verb ≡ false → Behind behind kept
       → Follows verb behind kept
@@ -271,7 +271,7 @@ pub data Numbering : List ℕ → List ℕ → Type 0 where
   numbered : (digits blanks rest : List ℕ) → AreIn class.Digit digits → digits ≢ [] → AreIn class.Blank blanks
       → blanks ≢ [] → Stops class.Blank rest → Numbering (digits ++ (blanks ++ rest)) rest
 
--- a line that is not too long, and its code: what is left without the blanks before it and the comment behind `;`
+-- a line that is not too long, and its code: what is left without the blanks before it and the comment after `;`
 pub record Cut (text code : List ℕ) : Type 0 where
   pub blanks : List ℕ
   pub comment : List ℕ
@@ -282,7 +282,7 @@ pub record Cut (text code : List ℕ) : Type 0 where
   pub begins : Stops class.Blank (code ++ comment)
   pub short : length text ≤ 250
 
--- the words of a line: code that is neither empty nor a `*` comment, behind its number
+-- the words of a line: code that is neither empty nor a `*` comment, after its number
 pub record HasWords (text words : List ℕ) : Type 0 where
   pub code : List ℕ
   pub cut : Cut text code

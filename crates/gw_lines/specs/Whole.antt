@@ -24,7 +24,7 @@ pub data OfLines : List (List ℕ) → List Statement → Type 0 where
 abbrev pub begun : ℕ → Statement → Option Unfinished
 begun number s = under_way (Some (record { line = number; statement = s }))
 
--- the first faulty one of lines, the first of which has this number, behind the statement that is under way (where
+-- the first faulty one of lines, the first of which has this number, after the statement that is under way (where
 -- there is one); where that wants pairs to the end, it is its own line
 pub data FirstFaulty : Option Unfinished → ℕ → List (List ℕ) → FaultyLine → Type 0 where
   faulty_line : (n : ℕ) (line : List ℕ) (lines : List (List ℕ)) (f : LineFault) → (IsRemark line → ⊥)

@@ -85,7 +85,7 @@ fn scope_of(class: Class) -> Scope
     }
 }
 
-// The subject that a text is behind the word of a class.
+// The subject that a text is after the word of a class.
 fn subject(alloc: Global, scope: Scope, text: &[u8]) -> Result<Option<Subject>, AllocError>
     ensures { IfOk result (λ o. o ≡ subject_of scope text.now) }
 {

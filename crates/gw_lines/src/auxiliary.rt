@@ -1,4 +1,4 @@
-// What stands beside a verb's operands: an operator in front of them, or a sign behind the first.
+// What stands beside a verb's operands: an operator in front of them, or a sign after the first.
 ghost use Rattle.std.specs.Prelude.{◌≡◌, IfOk};
 ghost use Rattle.gw_lines.specs.Reading.{Gives};
 ghost use Rattle.gw_lines.specs.Auxiliaries.{operators, operator_word, takes_operator, operator_of, takes_sign, last_byte, sign_in, sign_of, cut_off};
@@ -12,7 +12,7 @@ use gw_meaning::{Auxiliary, Condition, Switching};
 use gw_names::{BlockVerb, Verb};
 use std::alloc::{AllocError, Global};
 
-/// What stands beside the operands of a verb's text: the operator in front of them, or the sign behind the first of
+/// What stands beside the operands of a verb's text: the operator in front of them, or the sign after the first of
 /// them. An operator that is missing, or is none of the verb's, is a fault of operand 0.
 pub fn auxiliary_of(verb: Verb, text: &[u8]) -> Result<Auxiliary, LineFault>
     ensures { Gives (λ a. a) result (read_auxiliary verb text.now) }
@@ -112,7 +112,7 @@ fn operator_of(verb: Verb, word: &[u8]) -> Option<Auxiliary>
         .find(|o| operator_word(*o) == word)
 }
 
-// The sign behind the first operand of a verb's operand list.
+// The sign after the first operand of a verb's operand list.
 fn sign_of(verb: Verb, text: &[u8]) -> Auxiliary
     ensures { result ≡ sign_of verb text.now }
 {
@@ -123,7 +123,7 @@ fn sign_of(verb: Verb, text: &[u8]) -> Auxiliary
     }
 }
 
-/// A list without the sign behind its first operand.
+/// A list without the sign after its first operand.
 pub fn without_sign(alloc: Global, text: &[u8]) -> Result<Vec<u8>, AllocError>
     ensures { IfOk result (λ v. v.items ≡ cut_off (front_of class.Operand text.now) (rest_of class.Operand text.now)) }
 {

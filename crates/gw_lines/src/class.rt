@@ -70,7 +70,7 @@ pub fn word(bytes: &[u8]) -> (&[u8], &[u8])
     (word, span(Class::Blank, rest).1)
 }
 
-/// The first piece of a text, whether a byte that is not of the class ends it, and what stands behind that byte.
+/// The first piece of a text, whether a byte that is not of the class ends it, and what stands after that byte.
 pub fn piece(class: Class, text: &[u8]) -> (&[u8], bool, &[u8])
     ensures front { result.0.now ≡ front_of class text.now }
     ensures ended { result.1 ≡ not (is_nothing (rest_of class text.now)) }

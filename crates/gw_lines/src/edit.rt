@@ -17,7 +17,7 @@ use std::alloc::Global;
 ///
 /// A line that is too long comes first, then a wrong byte of any line (a further line has its comment as one of pairs),
 /// then the faults of the first line from left to right, then `BadPairs` for pairs that are not lawful or are missing,
-/// and for any further line that no pairs want, and a missing operand last. Behind a FUNCTION that misses one, pairs
+/// and for any further line that no pairs want, and a missing operand last. After a FUNCTION that misses one, pairs
 /// are lawful where they would be with some count from 1 to 1,000.
 pub fn read_edit(alloc: Global, text: &[u8]) -> Result<Statement, LineFault>
     // What is read is spelled so.
@@ -81,7 +81,7 @@ fn short_lines(text: &[u8]) -> Result<(), LineFault>
     Ok(())
 }
 
-// Nothing, where no line behind the first has a wrong byte outside its comment. The first one tells its own as it is
+// Nothing, where no line after the first has a wrong byte outside its comment. The first one tells its own as it is
 // read, and no fault of that line comes before it.
 fn plain_behind(alloc: Global, text: &[u8]) -> Result<(), LineFault>
     ensures { Gives (λ u. u) result (plain_behind (edit_lines text.now)) }
@@ -114,7 +114,7 @@ fn plain_pairs(alloc: Global, line: &[u8]) -> Result<(), LineFault>
     }
 }
 
-// The statement that begins on the first line, with the pairs of those behind it.
+// The statement that begins on the first line, with the pairs of those after it.
 fn first_statement(alloc: Global, text: &[u8]) -> Result<Statement, LineFault>
     ensures { Gives (λ s. s) result (first_of (edit_lines text.now)) }
 {
@@ -148,7 +148,7 @@ fn complete(alloc: Global, statement: &mut Statement, text: &[u8]) -> Result<(),
     }
 }
 
-// The first line's fault: a missing operand comes last, behind a fault of further lines.
+// The first line's fault: a missing operand comes last, after a fault of further lines.
 fn followed(alloc: Global, line: &[u8], further: &[u8], fault: LineFault) -> LineFault
     ensures { IsFault result (followed (may_miss line.now (edit_lines further.now)) fault) }
 {

@@ -97,7 +97,7 @@ fn before_closing(text: &[u8]) -> Option<&[u8]>
     text.strip_suffix(b")")
 }
 
-// The tokens that a text is, behind so many open parentheses.
+// The tokens that a text is, after so many open parentheses.
 #[tactic(auto, unfolding(crate::specs::Expressions::tokens_of))]
 fn read_tokens(alloc: Global, depth: usize, text: &[u8]) -> Result<Option<Vec<Token>>, AllocError>
     ensures { IfOk result (λ o. option_map (λ v. v.items) o ≡ tokens_of depth text.now) }
@@ -129,7 +129,7 @@ impl Reader {
         }
     }
 
-    // Behind a byte.
+    // After a byte.
     fn step(self, alloc: Global, b: u8) -> Result<Option<Reader>, AllocError>
         ensures { IfOk result (λ o. o ≡ step b self) }
     {
@@ -168,7 +168,7 @@ impl Reader {
         }
     }
 
-    // Behind an operand, whose signs and product are done with.
+    // After an operand, whose signs and product are done with.
     fn completed(mut self) -> Result<Reader, AllocError>
         ensures { IfOk result (λ r. r ≡ completed self.depth self.pending self.tokens) }
     {
@@ -186,7 +186,7 @@ impl Reader {
         Ok(self)
     }
 
-    // Behind a product, whose sum is done with.
+    // After a product, whose sum is done with.
     fn settled(mut self) -> Result<Reader, AllocError>
         ensures { IfOk result (λ r. r ≡ settled self.depth self.pending self.tokens) }
     {
@@ -200,7 +200,7 @@ impl Reader {
         Ok(self)
     }
 
-    // Behind a symbol.
+    // After a symbol.
     fn with_symbol(self, symbol: Symbol) -> Result<Option<Reader>, AllocError>
         ensures { IfOk result (λ o. o ≡ with_symbol symbol self) }
     {
@@ -235,7 +235,7 @@ impl Reader {
         Ok(self)
     }
 
-    // Behind an opening parenthesis.
+    // After an opening parenthesis.
     fn opened(mut self) -> Result<Option<Reader>, AllocError>
         ensures { IfOk result (λ o. o ≡ opened self) }
     {
@@ -246,7 +246,7 @@ impl Reader {
         Ok(Some(self.waiting(Pending::Opening)?))
     }
 
-    // Behind a closing one.
+    // After a closing one.
     fn closed(mut self) -> Result<Option<Reader>, AllocError>
         ensures { IfOk result (λ o. o ≡ closed_in self) }
     {

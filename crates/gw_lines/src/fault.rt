@@ -29,7 +29,7 @@ pub enum LineFault {
     /// L7: the verb has no operand with this number.
     #[error("operand {0} is one too many")]
     ExtraOperand(u8),
-    /// L8: a FUNCTION's pairs are not lawful or are missing, or lines stand behind a statement that wants none.
+    /// L8: a FUNCTION's pairs are not lawful or are missing, or lines stand after a statement that wants none.
     #[error("the lines behind the statement are not lawful")]
     BadPairs,
     /// L9: out of memory.
@@ -48,7 +48,7 @@ pub struct FaultyLine {
 }
 
 impl LineFault {
-    /// The fault's number, which a report prints behind an L.
+    /// The fault's number, which a report prints after an L.
     pub fn number(self) -> u8
         ensures { result ≡ number_of self }
     {

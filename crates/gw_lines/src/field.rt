@@ -83,7 +83,7 @@ fn constant_of(value: &Expr) -> Option<Val>
     }
 }
 
-/// The classes of a TABLE that the operands behind its first one make, if they make some.
+/// The classes of a TABLE that the operands after its first one make, if they make some.
 pub fn classes_in(operands: &[Option<Operand>]) -> Option<Classes>
     ensures { result ≡ classes_in operands.now }
 {

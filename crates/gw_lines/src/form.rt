@@ -19,7 +19,7 @@ pub enum Kind {
     Quiet,
     /// An entity: a name, a whole number from 1 to 1,000,000,000, an attribute or an expression in parentheses.
     Entity,
-    /// A fraction: digits with a point, six of them at most behind it, from 0 to 1.
+    /// A fraction: digits with a point, six of them at most after it, from 0 to 1.
     Fraction,
     /// A block's label.
     Label,

@@ -4,7 +4,7 @@
 //! [`read_model`] reads all lines, [`read_edit`] the text of an edit, in which `|` ends a line, and [`read_statement`]
 //! one line. A statement has one line, and a FUNCTION's pairs stand on further ones (pairs): no statement is handed out
 //! that wants more of them. A line is cut into words (words), and its operand list is copied without the blanks that
-//! are skipped (listed). In front of it stands the operator of a verb that takes one, and behind its first operand a
+//! are skipped (listed). In front of it stands the operator of a verb that takes one, and after its first operand a
 //! sign (auxiliary). What the operands of a verb may be is a list of forms (form). The list is split once, each part is
 //! read by its form (operands, operand, number, atom, attribute, expression), and the statement is made of what was
 //! read (field, body). What is read is a [`Statement`], which [`Statement::put_text`] lists.

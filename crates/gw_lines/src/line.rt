@@ -61,7 +61,7 @@ fn line_in(alloc: Global, code: &[u8]) -> Result<Option<Statement>, LineFault>
     Ok(Some(read_code(alloc, behind_number(code))?))
 }
 
-/// A line without the blanks before it and the comment behind its `;`.
+/// A line without the blanks before it and the comment after its `;`.
 #[tactic(auto, unfolding(crate::specs::Lines::code_of))]
 pub fn code(line: &[u8]) -> &[u8]
     ensures { result.now ≡ code_of line.now }
@@ -79,7 +79,7 @@ pub fn is_remark(code: &[u8]) -> bool
     }
 }
 
-/// What follows a line number: digits with a blank behind them.
+/// What follows a line number: digits with a blank after them.
 #[tactic(auto, unfolding(crate::specs::Lines::behind_number))]
 pub fn behind_number(code: &[u8]) -> &[u8]
     ensures { result.now ≡ behind_number code.now }

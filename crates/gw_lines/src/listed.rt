@@ -6,7 +6,7 @@ use crate::class::is_blank;
 use std::alloc::{AllocError, Global};
 
 /// The operand list at the front, in upper case and without the blanks that are skipped: those before it, those right
-/// behind a comma and those in parentheses. It ends at the first other blank.
+/// after a comma and those in parentheses. It ends at the first other blank.
 pub fn listed(alloc: Global, bytes: &[u8]) -> Result<Vec<u8>, AllocError>
     ensures { IfOk result (λ v. v.items ≡ upper_of (listed_of true 0 bytes.now)) }
 {
@@ -32,7 +32,7 @@ fn is_open(depth: usize) -> bool
     depth > 0
 }
 
-// How many parentheses are open behind a byte.
+// How many parentheses are open after a byte.
 fn depth_behind(b: u8, depth: usize) -> usize
     requires { depth < 2 ^ 63 }
     ensures depth { result ≡ depth_behind b depth }
@@ -45,7 +45,7 @@ fn depth_behind(b: u8, depth: usize) -> usize
     }
 }
 
-/// How many are open behind a closing one.
+/// How many are open after a closing one.
 pub fn shallower(depth: usize) -> usize
     ensures { result ≡ shallower depth }
 {

@@ -55,7 +55,7 @@ fn read_lines(alloc: Global, bytes: &[u8]) -> Result<Vec<Statement>, FaultyLine>
     ended(under, statements)
 }
 
-// The statement that stands behind the line with this number: that of the line, or the one under way with its pairs.
+// The statement that stands after the line with this number: that of the line, or the one under way with its pairs.
 fn with_line(
     alloc: Global,
     under: Option<Unfinished>,
@@ -88,7 +88,7 @@ fn numbered<T>(line: u64, read: Result<T, LineFault>) -> Result<T, FaultyLine>
     }
 }
 
-// Adds the statement that stands behind the line with this number, if it is done, or else what is still under way.
+// Adds the statement that stands after the line with this number, if it is done, or else what is still under way.
 fn keep(
     number: u64,
     under: Option<Unfinished>,

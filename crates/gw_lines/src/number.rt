@@ -23,7 +23,7 @@ pub fn number(most: u32, text: &[u8]) -> Option<u32>
     Some(number_after(u64::from(most), 0, text)? as u32)
 }
 
-// The number that digits spell behind those of `first`, if it is at most `most`.
+// The number that digits spell after those of `first`, if it is at most `most`.
 fn number_after(most: u64, first: u64, text: &[u8]) -> Option<u64>
     requires small { first ≤ most }
     requires fits { most ≤ 1000000000000000 }
@@ -70,7 +70,7 @@ pub fn value(text: &[u8]) -> Option<Val>
     }
 }
 
-/// The fraction that a text spells, in millionths: digits with a point, six of them at most behind it, from 0 to 1.
+/// The fraction that a text spells, in millionths: digits with a point, six of them at most after it, from 0 to 1.
 pub fn fraction(text: &[u8]) -> Option<u32>
     ensures value { result ≡ fraction_of 1000000 text.now }
     ensures bound { IfSome result (λ n. n ≤ 1000000) }
@@ -78,7 +78,7 @@ pub fn fraction(text: &[u8]) -> Option<u32>
     Some(pointed(u64::from(MILLION), text)? as u32)
 }
 
-/// The number of a point that a text spells: digits with a point or without one, six of them at most behind it, with
+/// The number of a point that a text spells: digits with a point or without one, six of them at most after it, with
 /// one `-` before them or none, from -1,000,000,000 to 1,000,000,000.
 pub fn coordinate(text: &[u8]) -> Option<Millionths>
     ensures { result ≡ coordinate_of text.now }

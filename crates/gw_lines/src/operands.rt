@@ -83,7 +83,7 @@ fn read_each(alloc: Global, forms: &[Form], text: &[u8]) -> Result<ReadList, Lin
     })
 }
 
-// The first of the parts that are left, empty where none are, and what is left behind it: more says that there are
+// The first of the parts that are left, empty where none are, and what is left after it: more says that there are
 // some.
 fn first_part(more: bool, rest: &[u8]) -> (&[u8], bool, &[u8])
     ensures here { goes_on (left more rest.now) ≡ more }

@@ -33,8 +33,8 @@ fn has_room(count: u32, points: &[Point]) -> bool
 }
 
 /// Adds the pairs of a further line to a statement that wants some; a blank line or a comment has none. Each point
-/// stands behind those before it: an x that is not above the last one, one pair too many, or what is no pair is
-/// `BadPairs`. Behind a fault the statement may lack what it had.
+/// stands after those before it: an x that is not above the last one, one pair too many, or what is no pair is
+/// `BadPairs`. After a fault the statement may lack what it had.
 #[tactic(auto, unfolding(crate::specs::Pairs::further_of))]
 pub fn read_further(alloc: Global, statement: &mut Statement, line: &[u8]) -> Result<(), LineFault>
     ensures { Gives (λ u. statement.new) result (further_of statement.old line.now) }
@@ -83,7 +83,7 @@ fn kept_in(alloc: Global, code: &[u8]) -> Result<Option<Vec<u8>>, LineFault>
     Ok(Some(operands(alloc, code)?))
 }
 
-// Adds the pairs of a text to a statement; the text is listed behind its operands.
+// Adds the pairs of a text to a statement; the text is listed after its operands.
 #[tactic(auto, unfolding(crate::specs::Pairs::statement_with))]
 fn add_pairs(alloc: Global, statement: &mut Statement, text: &[u8]) -> Result<(), LineFault>
     ensures { Gives (λ u. statement.new) result (statement_with statement.old text.now) }
@@ -106,7 +106,7 @@ fn add_points(alloc: Global, body: &mut Body, text: &[u8]) -> Result<(), LineFau
     }
 }
 
-// Lists a text behind operands.
+// Lists a text after operands.
 fn list_behind(alloc: Global, operands: &mut Row<u8>, text: &[u8]) -> Result<(), AllocError>
     ensures { IfOk result (λ u. operands.new ≡ operands.old ++ 124 ∷ text.now) }
 {
@@ -117,7 +117,7 @@ fn list_behind(alloc: Global, operands: &mut Row<u8>, text: &[u8]) -> Result<(),
     Ok(())
 }
 
-// Points with those that a text spells behind them.
+// Points with those that a text spells after them.
 #[tactic(auto, unfolding(crate::specs::Pairs::points_with))]
 fn points_with(count: u32, points: Vec<Point>, text: &[u8]) -> Result<Vec<Point>, LineFault>
     ensures { Gives (λ v. v.items) result (points_with count points.items text.now) }
@@ -135,7 +135,7 @@ fn points_with(count: u32, points: Vec<Point>, text: &[u8]) -> Result<Vec<Point>
     Ok(points)
 }
 
-// Adds a point, where it may stand behind the others.
+// Adds a point, where it may stand after the others.
 fn add_point(count: u32, points: &mut Vec<Point>, point: Option<Point>) -> Result<(), LineFault>
     ensures { Gives (λ u. points.new.items) result (with_point count points.old.items point) }
 {
@@ -151,7 +151,7 @@ fn add_point(count: u32, points: &mut Vec<Point>, point: Option<Point>) -> Resul
     }
 }
 
-// Whether a point may stand behind others: there is room for it, and its x is above the last one's.
+// Whether a point may stand after others: there is room for it, and its x is above the last one's.
 fn may_follow(count: u32, points: &[Point], point: &Point) -> bool
     ensures { result ≡ may_follow count points.now point.now }
 {

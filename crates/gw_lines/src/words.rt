@@ -16,7 +16,7 @@ use gw_meaning::Statement;
 use gw_names::{DefinitionVerb, Name, Verb};
 use std::alloc::{AllocError, Global};
 
-/// The statement that code spells, behind a line number and without its comment.
+/// The statement that code spells, after a line number and without its comment.
 #[tactic(auto, unfolding(crate::specs::Lines::coded_of))]
 pub fn read_code(alloc: Global, code: &[u8]) -> Result<Statement, LineFault>
     ensures { Gives (λ s. s) result (coded_of code.now) }
@@ -92,7 +92,7 @@ fn labelled(alloc: Global, word: &[u8], verb: Verb, bytes: &[u8]) -> Result<Stat
     })
 }
 
-// The operands behind a verb and its blanks, and its operator before them.
+// The operands after a verb and its blanks, and its operator before them.
 #[tactic(auto, unfolding(crate::specs::Lines::operands_behind))]
 fn operands_behind(alloc: Global, verb: Verb, bytes: &[u8]) -> Result<Vec<u8>, LineFault>
     ensures { Gives (λ v. v.items) result (operands_behind verb bytes.now) }
@@ -110,7 +110,7 @@ fn kept_behind(alloc: Global, verb: Verb, bytes: &[u8]) -> Result<Vec<u8>, Alloc
     }
 }
 
-// The operator's word, and the operand list behind one blank, where there is one.
+// The operator's word, and the operand list after one blank, where there is one.
 fn kept_with_operator(alloc: Global, bytes: &[u8]) -> Result<Vec<u8>, AllocError>
     ensures { IfOk result (λ v. v.items ≡ upper_of (kept_with_operator bytes.now)) }
 {

@@ -1,4 +1,4 @@
--- How a conversation stops: in the session behind its model, and for the fault that is told.
+-- How a conversation stops: in the session after its model, and for the fault that is told.
 use Rattle.std.proofs.Common.{◌≡◌, ℕ, List, ◌⊎◌, inl, inr, sym, subst}
 use Rattle.std.specs.Prelude.{IfErr, IfOk, MatchResult, Result, Ok, Err}
 use Rattle.gw_desk.specs.Book.{Book}
@@ -9,34 +9,40 @@ use Rattle.gw_script.specs.declared.fault.Fault.TheVariants as faults
 use Rattle.gw_script.specs.declared.fault.Over.{Over}
 use Rattle.gw_script.specs.declared.opening.Options.{Options}
 use Rattle.gw_script.specs.Opening.{Opens, Refuses}
-use Rattle.gw_script.specs.Replying.{DeskAnswers}
-use Rattle.gw_script.specs.Sessions.{Stops}
+use Rattle.gw_main.specs.Sharing.{IsStopped}
 use Rattle.gw_main.specs.Complaints.{IsToldAs, Tells, complaint_of, status_of}
 use Rattle.gw_main.specs.Conversations.{Ends, Takes, Fails, in_model, refused, in_session, served, stopped}
 
-module _ {S K : Type 0} (took : S → List ℕ → S → Type 0) (ended : S → Type 0) (reads : S → ℕ) (wrote : K → List ℕ → K → Type 0) (writes : K → ℕ) (o : Options)
-  where
-    abbrev FailsBy : S → S → K → K → Fault → Type 0
-    FailsBy reader reader' writer writer' fault = Fails took ended reads wrote writes o reader reader' writer writer' fault
+-- a session never stops for a faulty line of the model
+pub no_faulty_line : {S K : Type 0} {took : S → List ℕ → S → Type 0} {ended : S → Type 0} {reads : S → ℕ} {wrote : K → List ℕ → K → Type 0} {writes : K → ℕ}
+    {workers : ℕ} {b : Book} {reader reader' : S} {writer writer' : K} {faulty : FaultyLine} →
+    IsStopped took ended reads wrote writes workers b reader reader' writer writer' (faults.Line faulty) → ⊥
+no_faulty_line (IsStopped.alone none after stops) = stops.cause
+no_faulty_line (IsStopped.beside some after stops) = stops.cause
 
-    -- a session behind the model that was taken stopped
-    pub fails_behind : (reader between reader' : S) (writer writer' : K) (model : List ℕ) (fault : Fault) → Takes took ended reads reader between model →
-        (Refuses model o fault × (reader' ≡ between) × (writer' ≡ writer)) ⊎
-        ((b : Book) × (b' : Book) × Opens model o b × Stops DeskAnswers took ended reads wrote writes b between reader' writer writer' b' fault) →
-        FailsBy reader reader' writer writer' fault
-    fails_behind reader between reader' writer writer' model fault taken (inl h) =
-        let P : S → Type 0 = λ s. Takes took ended reads reader s model in
-        refused model (subst P (sym h.1) taken) h.0 h.2
-    fails_behind reader between reader' writer writer' model fault taken (inr h) = in_session between model h.0 h.1 taken h.2 h.3
+module _ {S K : Type 0} (took : S → List ℕ → S → Type 0) (ended : S → Type 0) (reads : S → ℕ) (wrote : K → List ℕ → K → Type 0) (writes : K → ℕ) (workers : ℕ)
+    (o : Options) where
+  abbrev FailsBy : S → S → K → K → Fault → Type 0
+  FailsBy reader reader' writer writer' fault = Fails took ended reads wrote writes workers o reader reader' writer writer' fault
 
-    -- a conversation that stopped for a faulty line stopped, as far as can be said, out of memory
-    pub fails_of_memory : (reader reader' : S) (writer writer' : K) (faulty : FaultyLine) → FailsBy reader reader' writer writer' (faults.Line faulty) →
-        FailsBy reader reader' writer writer' faults.Memory
-    fails_of_memory reader reader' writer writer' faulty (in_model left causes.Read breaks is unwritten) = absurd cc
-    fails_of_memory reader reader' writer writer' faulty (in_model left causes.Limit breaks is unwritten) = absurd cc
-    fails_of_memory reader reader' writer writer' faulty (in_model left causes.Memory breaks is unwritten) = absurd cc
-    fails_of_memory reader reader' writer writer' faulty (refused model taken refusal unwritten) = refused model taken tt unwritten
-    fails_of_memory reader reader' writer writer' faulty (in_session between model book after taken opens stops) = absurd stops.cause
+  -- a session after the model that was taken stopped
+  pub fails_behind : (reader between reader' : S) (writer writer' : K) (model : List ℕ) (fault : Fault) → Takes took ended reads reader between model →
+      (Refuses model o fault × (reader' ≡ between) × (writer' ≡ writer)) ⊎
+      ((b : Book) × Opens model o b × IsStopped took ended reads wrote writes workers b between reader' writer writer' fault) →
+      FailsBy reader reader' writer writer' fault
+  fails_behind reader between reader' writer writer' model fault taken (inl h) =
+      let P : S → Type 0 = λ s. Takes took ended reads reader s model in
+      refused model (subst P (sym h.1) taken) h.0 h.2
+  fails_behind reader between reader' writer writer' model fault taken (inr h) = in_session between model h.0 taken h.1 h.2
+
+  -- a conversation that stopped for a faulty line stopped, as far as can be said, out of memory
+  pub fails_of_memory : (reader reader' : S) (writer writer' : K) (faulty : FaultyLine) → FailsBy reader reader' writer writer' (faults.Line faulty) →
+      FailsBy reader reader' writer writer' faults.Memory
+  fails_of_memory reader reader' writer writer' faulty (in_model left causes.Read breaks is unwritten) = absurd cc
+  fails_of_memory reader reader' writer writer' faulty (in_model left causes.Limit breaks is unwritten) = absurd cc
+  fails_of_memory reader reader' writer writer' faulty (in_model left causes.Memory breaks is unwritten) = absurd cc
+  fails_of_memory reader reader' writer writer' faulty (refused model taken refusal unwritten) = refused model taken tt unwritten
+  fails_of_memory reader reader' writer writer' faulty (in_session between model book taken opens stops) = absurd (no_faulty_line stops)
 
 -- what stopped for a fault stopped for the one that is told, where a faulty line may be told as out of memory
 pub is_told : (F : Fault → Type 0) → ((faulty : FaultyLine) → F (faults.Line faulty) → F faults.Memory) → (came told : Fault) → IsToldAs came told → F came →

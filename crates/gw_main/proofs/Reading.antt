@@ -1,5 +1,5 @@
 -- From what `clap` says of the program's command line to what the words ask for.
-use Rattle.std.proofs.Common.{◌≡◌, ◌⊎◌, inl, inr, List, [], true, ap, sym, subst, refl, ◌∙◌}
+use Rattle.std.proofs.Common.{◌≡◌, ◌⊎◌, inl, inr, ℕ, List, [], true, ap, sym, subst, refl, ◌∙◌}
 use Rattle.std.specs.Prelude.{Option, codes}
 use Rattle.clap.specs.Words.{App, HasMatchesOf, IsAmong, Text, first_of, first_value, found_of, is_simple, is_simple_and_free, matches_of}
 use Rattle.clap.specs.declared.error.kind.ErrorKind.{ErrorKind}
@@ -10,7 +10,7 @@ use Rattle.clap.proofs.WalkLemmas.{first_value-rows}
 use Rattle.gw_script.specs.declared.opening.Options.{Options}
 use Rattle.gw_main.specs.declared.words.Refusal.{Refusal}
 use Rattle.gw_main.specs.declared.words.Refusal.TheVariants as refusals
-use Rattle.gw_main.specs.Words.{HasBadNumber, IsNumberRefusal, IsRefusalAt, IsRefusedBy, SaysOptions, every, faults_of, gpssbench, horizon, limit, said, seed, word_of}
+use Rattle.gw_main.specs.Words.{HasBadNumber, IsNumberRefusal, IsRefusalAt, IsRefusedBy, SaysOptions, every, faults_of, gpssbench, horizon, limit, said, seed, word_of, workers}
 
 -- the program's command line is of those whose matches and faults clap says exactly
 gpssbench_is_simple : is_simple gpssbench ≡ true
@@ -33,12 +33,14 @@ given_by_words a words m e h name =
     first_value-rows (found_of m) name ∙ ap (first_of name) (rows ∙ ap (λ (v : App). matches_of v words) e)
 
 -- what is said does not depend on how the words are looked up
-pub says_same : (given given' : Text → Option Text) (o : Options) → ((name : Text) → given name ≡ given' name) → SaysOptions given o → SaysOptions given' o
-says_same given given' o same h = record {
+pub says_same : (given given' : Text → Option Text) (o : Options) (n : ℕ) → ((name : Text) → given name ≡ given' name) → SaysOptions given o n →
+    SaysOptions given' o n
+says_same given given' o n same h = record {
   seed = ap (said 1 2147483646 1) (sym (same (codes "seed"))) ∙ h.seed;
   horizon = ap (said 1 1000000000000 1000000000) (sym (same (codes "horizon"))) ∙ h.horizon;
   every = ap (said 1 1000000 1000) (sym (same (codes "every"))) ∙ h.every;
   limit = ap (said 1 1000000 1000000) (sym (same (codes "limit"))) ∙ h.limit;
+  workers = ap (said 0 16 0) (sym (same (codes "workers"))) ∙ h.workers;
 }
 
 pub bad_same : (given given' : Text → Option Text) → ((name : Text) → given name ≡ given' name) → HasBadNumber given → HasBadNumber given'
@@ -46,6 +48,7 @@ bad_same given given' same (seed e) = seed (ap (said 1 2147483646 1) (sym (same 
 bad_same given given' same (horizon e) = horizon (ap (said 1 1000000000000 1000000000) (sym (same (codes "horizon"))) ∙ e)
 bad_same given given' same (every e) = every (ap (said 1 1000000 1000) (sym (same (codes "every"))) ∙ e)
 bad_same given given' same (limit e) = limit (ap (said 1 1000000 1000000) (sym (same (codes "limit"))) ∙ e)
+bad_same given given' same (workers e) = workers (ap (said 0 16 0) (sym (same (codes "workers"))) ∙ e)
 
 -- clap refused the words by one of their faults, or out of memory
 pub refused_by_clap : (words : List Text) (kind : ErrorKind) (refusal : Refusal) → IsRefusalAt kind refusal → (kind ≡ kinds.OutOfMemory) ⊎

@@ -20,7 +20,7 @@ use Rattle.gw_main.specs.declared.words.Refusal.{Refusal}
 use Rattle.gw_main.specs.declared.words.Refusal.TheVariants as refusals
 use Rattle.gw_main.specs.Conversations.{Fails, Runs, in_model, stopped}
 use Rattle.gw_main.specs.Programs.{Declines, Does, Proceeds, RunsAt}
-use Rattle.gw_main.specs.Words.{HasBadNumber, IsBadLine, IsModelAt, IsReadAs, SaysOptions, every, faults_of, horizon, limit, said, seed, word_of}
+use Rattle.gw_main.specs.Words.{HasBadNumber, IsBadLine, IsModelAt, IsReadAs, SaysOptions, every, faults_of, horizon, limit, said, seed, word_of, workers}
 
 -- clap finds nothing wrong in no words, and they give no word for a name
 no_faults : faults_of [] ≡ []
@@ -46,12 +46,14 @@ no_bad_number (every h) =
     let e : Some 1000 ≡ None = sym (ap (said 1 1000000 1000) (no_word (codes "every"))) ∙ h in cc
 no_bad_number (limit h) =
     let e : Some 1000000 ≡ None = sym (ap (said 1 1000000 1000000) (no_word (codes "limit"))) ∙ h in cc
+no_bad_number (workers h) =
+    let e : Some 0 ≡ None = sym (ap (said 0 16 0) (no_word (codes "workers"))) ∙ h in cc
 
 abbrev options_with : ℕ → ℕ → ℕ → ℕ → Options
 options_with s t k l = record { seed = s; horizon = t; every = k; limit = l }
 
-usual_options : (o : Options) → SaysOptions (word_of []) o → o ≡ constants.Options.USUAL
-usual_options o h =
+usual_options : (o : Options) (n : ℕ) → SaysOptions (word_of []) o n → o ≡ constants.Options.USUAL
+usual_options o n h =
     let s : o.seed ≡ 1 = says_usual 1 2147483646 1 o.seed (codes "seed") h.seed in
     let t : o.horizon ≡ 1000000000 = says_usual 1 1000000000000 1000000000 o.horizon (codes "horizon") h.horizon in
     let k : o.every ≡ 1000 = says_usual 1 1000000 1000 o.every (codes "every") h.every in
@@ -59,16 +61,25 @@ usual_options o h =
     ap (λ v. options_with v o.horizon o.every o.limit) s ∙
     (ap (λ v. options_with 1 v o.every o.limit) t ∙ (ap (λ v. options_with 1 1000000000 v o.limit) k ∙ ap (options_with 1 1000000000 1000) l))
 
+usual_workers : (o : Options) (n : ℕ) → SaysOptions (word_of []) o n → n ≡ 0
+usual_workers o n h = says_usual 0 16 0 n (codes "workers") h.workers
+
 usual_place : (m : ModelAt) → IsModelAt None m → m ≡ places.Input
 usual_place places.Input h = refl
 usual_place (places.File path) h = absurd h
 
 -- words that are none ask for a run under the usual options, or out of memory
 is_usual : (meant : Result Wanted Refusal) → IsReadAs [] meant →
-    ((wanted : Wanted) × (meant ≡ Ok wanted) × (wanted.model ≡ places.Input) × (wanted.options ≡ constants.Options.USUAL)) ⊎ (meant ≡ Err refusals.Memory)
+    ((wanted : Wanted) × (meant ≡ Ok wanted) × (wanted.model ≡ places.Input) × (wanted.workers ≡ 0) × (wanted.options ≡ constants.Options.USUAL)) ⊎ (meant ≡ Err refusals.Memory)
 is_usual (Ok wanted) h =
     let At : Option Text → Type 0 = λ w. IsModelAt w wanted.model in
-    inl (wanted, refl, usual_place wanted.model (subst At (no_word (codes "model")) h.model), usual_options wanted.options h.options)
+    inl (
+      wanted,
+      refl,
+      usual_place wanted.model (subst At (no_word (codes "model")) h.model),
+      usual_workers wanted.options wanted.workers h.options,
+      usual_options wanted.options wanted.workers h.options,
+    )
 is_usual (Err (refusals.Help text)) (inl h) = let Among : Kinds → Type 0 = λ ks. IsAmong kinds.DisplayHelp ks in absurd (subst Among no_faults h)
 is_usual (Err (refusals.Help text)) (inr h) = let Among : Kinds → Type 0 = λ ks. IsAmong kinds.DisplayVersion ks in absurd (subst Among no_faults h)
 is_usual (Err (refusals.Bad text)) (inl line) = absurd (subst IsBadLine no_faults line).found
@@ -78,8 +89,9 @@ is_usual (Err refusals.Memory) h = inr refl
 module _ {S K : Type 0} (took : S → List ℕ → S → Type 0) (ended : S → Type 0) (reads : S → ℕ) (wrote : K → List ℕ → K → Type 0) (writes : K → ℕ)
     (nothing : (a : S) → took a [] a) (reader reader' : S) (writer writer' : K) where
   -- out of memory before anything is read is a conversation that stopped out of memory within its model
-  stops_unread : (o : Options) → reader' ≡ reader → writer' ≡ writer → Fails took ended reads wrote writes o reader reader' writer writer' faults.Memory
-  stops_unread o unread unwritten =
+  stops_unread : (n : ℕ) (o : Options) → reader' ≡ reader → writer' ≡ writer →
+      Fails took ended reads wrote writes n o reader reader' writer writer' faults.Memory
+  stops_unread n o unread unwritten =
       let P : S → Type 0 = λ v. Breaks took reads IsModelPart reader v 16777216 16777216 causes.Memory in
       let breaks : Breaks took reads IsModelPart reader reader 16777216 16777216 causes.Memory =
       record {
@@ -99,10 +111,10 @@ module _ {S K : Type 0} (took : S → List ℕ → S → Type 0) (ended : S → 
   module _ {F E : Type 0} (opens : List ℕ → Result F ReadFault → Type 0) (took_file : F → List ℕ → F → Type 0) (ended_file : F → Type 0) (reads_file : F → ℕ)
       (told : E → List ℕ → E → Type 0) (losses : E → ℕ) (errors errors' : E) (status : ℕ) where
     abbrev IsUsualRun : Type 0
-    IsUsualRun = Runs took ended reads wrote writes told losses constants.Options.USUAL reader reader' writer writer' errors errors' status
+    IsUsualRun = Runs took ended reads wrote writes told losses 0 constants.Options.USUAL reader reader' writer writer' errors errors' status
 
     unread_run : Declines told losses (codes "stopped: F6\n") 3 reader reader' writer writer' errors errors' status → IsUsualRun
-    unread_run h = stopped faults.Memory (stops_unread constants.Options.USUAL h.unread h.unwritten) h.tells h.status_is
+    unread_run h = stopped faults.Memory (stops_unread 0 constants.Options.USUAL h.unread h.unwritten) h.tells h.status_is
 
     pub usual_run : (words : List Text) → words ≡ [] → Does opens took_file ended_file reads_file took ended reads wrote writes told losses words reader reader'
         writer writer' errors errors' status → IsUsualRun
@@ -111,12 +123,14 @@ module _ {S K : Type 0} (took : S → List ℕ → S → Type 0) (ended : S → 
       Done meant =
           Proceeds opens took_file ended_file reads_file took ended reads wrote writes told losses meant reader reader' writer writer' errors errors' status
 
-      At : ModelAt → Options → Type 0
-      At m o = RunsAt opens took_file ended_file reads_file took ended reads wrote writes told losses m o reader reader' writer writer' errors errors' status
+      At : ModelAt → ℕ → Options → Type 0
+      At m n o = RunsAt opens took_file ended_file reads_file took ended reads wrote writes told losses m n o reader reader' writer writer' errors errors' status
 
-      go : ((wanted : Wanted) × (d.meant ≡ Ok wanted) × (wanted.model ≡ places.Input) × (wanted.options ≡ constants.Options.USUAL)) ⊎
+      go : ((wanted : Wanted) × (d.meant ≡ Ok wanted) × (wanted.model ≡ places.Input) × (wanted.workers ≡ 0) × (wanted.options ≡ constants.Options.USUAL)) ⊎
           (d.meant ≡ Err refusals.Memory) → IsUsualRun
-      go (inl h) = subst (At places.Input) h.3 (subst (λ (m : ModelAt). At m h.0.options) h.2 (subst Done h.1 d.done))
+      go (inl h) =
+          subst (At places.Input 0) h.4 (subst (λ (n : ℕ). At places.Input n h.0.options) h.3
+          (subst (λ (m : ModelAt). At m h.0.workers h.0.options) h.2 (subst Done h.1 d.done)))
       go (inr memory) = unread_run (subst Done memory d.done)
 
 -- no words have no texts

@@ -9,9 +9,8 @@ use Rattle.gw_script.specs.declared.fault.Fault.{Fault}
 use Rattle.gw_script.specs.declared.fault.Over.{Over}
 use Rattle.gw_script.specs.declared.opening.Options.{Options}
 use Rattle.gw_script.specs.Opening.{Opens, Refuses}
-use Rattle.gw_script.specs.Replying.{DeskAnswers}
-use Rattle.gw_script.specs.Sessions.{Serves, Stops}
 use Rattle.gw_script.specs.Turns.{stopped_by}
+use Rattle.gw_main.specs.Sharing.{IsServed, IsStopped}
 
 -- a file was opened, and all its bytes were taken, by at most 16,777,216 calls of which none failed: they are the model
 pub record TakesFile {F : Type 0} (took : F → List ℕ → F → Type 0) (ended : F → Type 0) (reads : F → ℕ)
@@ -26,33 +25,34 @@ pub record TakesFile {F : Type 0} (took : F → List ℕ → F → Type 0) (ende
 -- a conversation over a model file came to its end: the model opens, and the session served the script
 pub record FileConverses {F S K : Type 0} (took_file : F → List ℕ → F → Type 0) (ended_file : F → Type 0)
     (reads_file : F → ℕ) (took : S → List ℕ → S → Type 0) (ended : S → Type 0) (reads : S → ℕ)
-    (wrote : K → List ℕ → K → Type 0) (writes : K → ℕ) (o : Options) (opened : Result F ReadFault) (reader reader' : S)
-    (writer writer' : K) (over : Over) : Type 0 where
+    (wrote : K → List ℕ → K → Type 0) (writes : K → ℕ) (workers : ℕ) (o : Options) (opened : Result F ReadFault)
+    (reader reader' : S) (writer writer' : K) (over : Over) : Type 0 where
   pub model : List ℕ
   pub book : Book
-  pub after : Book
   pub taken : TakesFile took_file ended_file reads_file opened model
   pub opens : Opens model o book
-  pub serves : Serves DeskAnswers took ended reads wrote writes book reader reader' writer writer' after over
+  pub serves : IsServed took ended reads wrote writes workers book reader reader' writer writer' over
 
 -- a conversation over a model file stopped: the file could not be opened, or not be read to its end, or its model is
 -- refused, with no script read and nothing written; or it stopped in the session over the model
 pub data FileFails {F S K : Type 0} (took_file : F → List ℕ → F → Type 0) (ended_file : F → Type 0) (reads_file : F → ℕ)
     (took : S → List ℕ → S → Type 0) (ended : S → Type 0) (reads : S → ℕ) (wrote : K → List ℕ → K → Type 0)
-    (writes : K → ℕ) (o : Options) (opened : Result F ReadFault) (reader reader' : S) (writer writer' : K)
-    (fault : Fault) : Type 0 where
+    (writes : K → ℕ) (workers : ℕ) (o : Options) (opened : Result F ReadFault) (reader reader' : S)
+    (writer writer' : K) (fault : Fault) : Type 0 where
   unopened : (cause : ReadFault) → opened ≡ Err cause → fault ≡ stopped_by cause → reader' ≡ reader → writer' ≡ writer →
-      FileFails took_file ended_file reads_file took ended reads wrote writes o opened reader reader' writer writer'
-      fault
+      FileFails took_file ended_file reads_file took ended reads wrote writes workers o opened reader reader'
+      writer writer' fault
   in_file : (file behind : F) (left : ℕ) (cause : ReadFault) → opened ≡ Ok file →
       Breaks took_file reads_file AnyBytes file behind 16777216 left cause → fault ≡ stopped_by cause →
-      reader' ≡ reader → writer' ≡ writer → FileFails took_file ended_file reads_file took ended reads wrote writes o
-      opened reader reader' writer writer' fault
+      reader' ≡ reader → writer' ≡ writer →
+      FileFails took_file ended_file reads_file took ended reads wrote writes workers o opened reader reader'
+      writer writer' fault
   refused : (model : List ℕ) → TakesFile took_file ended_file reads_file opened model → Refuses model o fault →
-      reader' ≡ reader → writer' ≡ writer → FileFails took_file ended_file reads_file took ended reads wrote writes o
-      opened reader reader' writer writer' fault
-  in_session : (model : List ℕ) (book after : Book) → TakesFile took_file ended_file reads_file opened model →
+      reader' ≡ reader → writer' ≡ writer →
+      FileFails took_file ended_file reads_file took ended reads wrote writes workers o opened reader reader'
+      writer writer' fault
+  in_session : (model : List ℕ) (book : Book) → TakesFile took_file ended_file reads_file opened model →
       Opens model o book →
-      Stops DeskAnswers took ended reads wrote writes book reader reader' writer writer' after fault →
-      FileFails took_file ended_file reads_file took ended reads wrote writes o opened reader reader' writer writer'
-      fault
+      IsStopped took ended reads wrote writes workers book reader reader' writer writer' fault →
+      FileFails took_file ended_file reads_file took ended reads wrote writes workers o opened reader reader'
+      writer writer' fault

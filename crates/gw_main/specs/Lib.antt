@@ -1,4 +1,5 @@
 pub mod Complaints
+pub mod Sharing
 pub mod Conversations
 pub mod Files
 pub mod Programs

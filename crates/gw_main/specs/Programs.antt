@@ -23,7 +23,7 @@ pub record Declines {S K E : Type 0} (told : E → List ℕ → E → Type 0) (l
   pub unwritten : writer' ≡ writer
   pub tells : Tells told losses text errors errors'
 
--- help was written, and the status is 0; or the writer failed behind a front of it, which standard error was told of
+-- help was written, and the status is 0; or the writer failed after a front of it, which standard error was told of
 pub data Helps {K E : Type 0} (wrote : K → List ℕ → K → Type 0) (writes : K → ℕ) (told : E → List ℕ → E → Type 0)
     (losses : E → ℕ) (text : List ℕ) (writer writer' : K) (errors errors' : E) (status : ℕ) : Type 0 where
   helped : wrote writer text writer' → writes writer' ≡ writes writer → errors' ≡ errors → status ≡ 0 →
@@ -35,26 +35,28 @@ pub data Helps {K E : Type 0} (wrote : K → List ℕ → K → Type 0) (writes 
 -- a run with its model in a file
 abbrev pub FileRuns : {F S K E : Type 0} → (F → List ℕ → F → Type 0) → (F → Type 0) → (F → ℕ) →
     (S → List ℕ → S → Type 0) → (S → Type 0) → (S → ℕ) → (K → List ℕ → K → Type 0) → (K → ℕ) →
-    (E → List ℕ → E → Type 0) → (E → ℕ) → Options → Result F ReadFault → S → S → K → K → E → E → ℕ → Type 0
-FileRuns took_file ended_file reads_file took ended reads wrote writes told losses o opened reader reader' writer
-    writer' errors errors' status = Ends told losses
-    (FileConverses took_file ended_file reads_file took ended reads wrote writes o opened reader reader' writer writer')
-    (FileFails took_file ended_file reads_file took ended reads wrote writes o opened reader reader' writer writer')
+    (E → List ℕ → E → Type 0) → (E → ℕ) → ℕ → Options → Result F ReadFault → S → S → K → K → E → E → ℕ → Type 0
+FileRuns took_file ended_file reads_file took ended reads wrote writes told losses workers o opened reader reader'
+    writer writer' errors errors' status = Ends told losses
+    (FileConverses took_file ended_file reads_file took ended reads wrote writes workers o opened reader reader'
+    writer writer')
+    (FileFails took_file ended_file reads_file took ended reads wrote writes workers o opened reader reader'
+    writer writer')
     errors errors' status
 
 -- a run that was asked for: its model stands on standard input, or in a file that was opened; `opens` says what the
 -- opening of a file of a name may give
 abbrev pub RunsAt : {F S K E : Type 0} → (List ℕ → Result F ReadFault → Type 0) → (F → List ℕ → F → Type 0) →
     (F → Type 0) → (F → ℕ) → (S → List ℕ → S → Type 0) → (S → Type 0) → (S → ℕ) → (K → List ℕ → K → Type 0) → (K → ℕ) →
-    (E → List ℕ → E → Type 0) → (E → ℕ) → ModelAt → Options → S → S → K → K → E → E → ℕ → Type 0
-RunsAt {F} opens took_file ended_file reads_file took ended reads wrote writes told losses places.Input o reader reader'
-    writer writer' errors errors' status =
-    Runs took ended reads wrote writes told losses o reader reader' writer writer' errors errors' status
+    (E → List ℕ → E → Type 0) → (E → ℕ) → ModelAt → ℕ → Options → S → S → K → K → E → E → ℕ → Type 0
+RunsAt {F} opens took_file ended_file reads_file took ended reads wrote writes told losses places.Input workers o
+    reader reader' writer writer' errors errors' status =
+    Runs took ended reads wrote writes told losses workers o reader reader' writer writer' errors errors' status
 RunsAt {F} opens took_file ended_file reads_file took ended reads wrote writes told losses (places.File path)
-    o reader reader' writer writer' errors errors' status =
+    workers o reader reader' writer writer' errors errors' status =
     (opened : Result F ReadFault) × opens path.now opened ×
-    FileRuns took_file ended_file reads_file took ended reads wrote writes told losses o opened reader reader' writer
-    writer' errors errors' status
+    FileRuns took_file ended_file reads_file took ended reads wrote writes told losses workers o opened reader reader'
+    writer writer' errors errors' status
 
 -- what is done for what the words came to: a run, help with status 0, a refusal with status 2, or out of memory with
 -- status 3
@@ -63,8 +65,8 @@ abbrev pub Proceeds : {F S K E : Type 0} → (List ℕ → Result F ReadFault �
     (E → List ℕ → E → Type 0) → (E → ℕ) → Result Wanted Refusal → S → S → K → K → E → E → ℕ → Type 0
 Proceeds opens took_file ended_file reads_file took ended reads wrote writes told losses (Ok wanted)
     reader reader' writer writer' errors errors' status =
-    RunsAt opens took_file ended_file reads_file took ended reads wrote writes told losses wanted.model wanted.options
-    reader reader' writer writer' errors errors' status
+    RunsAt opens took_file ended_file reads_file took ended reads wrote writes told losses wanted.model wanted.workers
+    wanted.options reader reader' writer writer' errors errors' status
 Proceeds opens took_file ended_file reads_file took ended reads wrote writes told losses (Err (refusals.Help text))
     reader reader' writer writer' errors errors' status =
     (reader' ≡ reader) × Helps wrote writes told losses (string_bytes text) writer writer' errors errors' status

@@ -1,5 +1,5 @@
--- What the program's words ask for: `[MODEL] --seed S --horizon T --every K --limit L`, as `clap` reads such a line.
--- Which word goes to which name is clap's own definition; the numbers and their limits are ours.
+-- What the program's words ask for: `[MODEL] --seed S --horizon T --every K --limit L --workers W`, as `clap` reads such
+-- a line. Which word goes to which name is clap's own definition; the numbers and their limits are ours.
 use Rattle.std.specs.Prelude.{◌≡◌, ◌≢◌, ◌⊎◌, ℕ, true, ◌&&◌, List, [], Option, Some, None, Result, Ok, Err, if◌then◌else◌, nat_le, codes}
 use Rattle.clap.specs.Words.{App, IsAmong, Rule, Shape, Text, fault_of, first_of, matches_of, new_app, new_rule, with_rule}
 use Rattle.clap.specs.Kinds.{Kinds}
@@ -14,7 +14,7 @@ use Rattle.gw_main.specs.declared.words.Wanted.{Wanted}
 use Rattle.gw_main.specs.declared.words.Refusal.{Refusal}
 use Rattle.gw_main.specs.declared.words.Refusal.TheVariants as refusals
 
--- an option with one word behind its long name
+-- an option with one word after its long name
 abbrev pub option_rule : Text → Rule
 option_rule name = record (new_rule name) { long = Some name; value_names = 1 }
 
@@ -22,15 +22,16 @@ option_rule name = record (new_rule name) { long = Some name; value_names = 1 }
 abbrev pub model_rule : Rule
 model_rule = record (new_rule (codes "model")) { value_names = 1 }
 
--- the words begin behind the program's name, which has a version
+-- the words begin after the program's name, which has a version
 abbrev pub behind_name : Shape → Shape
 behind_name s = record s { no_binary_name = true; has_version = true }
 
 -- the program's command line
 abbrev pub gpssbench : App
-gpssbench = with_rule (with_rule (with_rule
+gpssbench = with_rule (with_rule (with_rule (with_rule
     (with_rule (with_rule (on_top behind_name (new_app (codes "gpssbench"))) model_rule) (option_rule (codes "seed")))
-    (option_rule (codes "horizon"))) (option_rule (codes "every"))) (option_rule (codes "limit"))
+    (option_rule (codes "horizon"))) (option_rule (codes "every"))) (option_rule (codes "limit")))
+    (option_rule (codes "workers"))
 
 -- what clap finds wrong in the words, or asked for in place of a run: nothing, where it takes them
 abbrev pub faults_of : List Text → Kinds
@@ -65,12 +66,17 @@ every_of given = said 1 1000000 1000 (given (codes "every"))
 abbrev pub limit_of : (Text → Option Text) → Option ℕ
 limit_of given = said 1 1000000 1000000 (given (codes "limit"))
 
--- each option says a number, and these are the numbers
-pub record SaysOptions (given : Text → Option Text) (o : Options) : Type 0 where
+-- how many workers there are, none where no word is given
+abbrev pub workers_of : (Text → Option Text) → Option ℕ
+workers_of given = said 0 16 0 (given (codes "workers"))
+
+-- each option says a number, and these are the numbers, with the count of workers
+pub record SaysOptions (given : Text → Option Text) (o : Options) (count : ℕ) : Type 0 where
   pub seed : seed_of given ≡ Some o.seed
   pub horizon : horizon_of given ≡ Some o.horizon
   pub every : every_of given ≡ Some o.every
   pub limit : limit_of given ≡ Some o.limit
+  pub workers : workers_of given ≡ Some count
 
 -- an option says no number
 pub data HasBadNumber (given : Text → Option Text) : Type 0 where
@@ -78,6 +84,7 @@ pub data HasBadNumber (given : Text → Option Text) : Type 0 where
   horizon : horizon_of given ≡ None → HasBadNumber given
   every : every_of given ≡ None → HasBadNumber given
   limit : limit_of given ≡ None → HasBadNumber given
+  workers : workers_of given ≡ None → HasBadNumber given
 
 -- the model stands on standard input where no word or `-` is given for it, and else in the file of that name
 abbrev pub IsModelAt : Option Text → ModelAt → Type 0
@@ -90,7 +97,7 @@ IsModelAt (Some word) (places.File path) = (word ≢ codes "-") × (path.now ≡
 pub record Asks (words : List Text) (wanted : Wanted) : Type 0 where
   pub taken : faults_of words ≡ []
   pub model : IsModelAt (word_of words (codes "model")) wanted.model
-  pub options : SaysOptions (word_of words) wanted.options
+  pub options : SaysOptions (word_of words) wanted.options wanted.workers
 
 -- clap finds something wrong that is no request for help or for the version
 pub record IsBadLine (faults : Kinds) : Type 0 where

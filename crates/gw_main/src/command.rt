@@ -12,7 +12,7 @@ const ABOUT: &str =
 const VERSION: &str = "0.1.0";
 
 const SESSION: &str =
-    "A session on standard input: the model in front of a line `end`, and the script behind it.
+    "A session on standard input: the model before a line `end`, and the script after it.
 
 GENERATE 10 ; a patient every 10 ticks of the clock
 ADVANCE 3   ; is seen for 3 ticks
@@ -34,7 +34,8 @@ The lines of a script, with r for a replication, k for a START and p for a place
   report r k       The report of START k of replication r; steps that are missing are made
   peek r k         The same from the steps that are there, or `unfinished N`
   all k            The report of START k of each replication
-  list             The statements, each behind its place
+  work r n         Up to n steps more of replication r are made
+  list             The statements, each after its place
   insert p TEXT    The statement TEXT is inserted at place p
   delete p         The statement at place p is deleted
   change p TEXT    TEXT stands in its place, with its label or without one
@@ -48,12 +49,16 @@ The lines of a script, with r for a replication, k for a START and p for a place
 An edit is answered `ok E`, when E are accepted, or `refused` with why. Take seeds of seven digits
 and more, far apart.
 
-The program ends with status 0 when the script was served, 1 when the model is refused, 2 when the
-words behind its name are, and 3 when reading, writing or memory failed. Standard error says why.
-In the program's repository docs/language.md has all that a model may hold, docs/codes.md each
-answer and what to do about it, and docs/tour.md two examples.";
+With `--workers W` all replications are simulated further while you type and while a report is made.
+Each report has the same bytes as without; `peek` and `work` answer what has been reached.
 
-/// The command line of the program, whose words begin behind the program's name.
+The program ends with status 0 when the script was served, 1 when the model is refused, 2 when the
+words after its name are, and 3 when reading, writing or memory failed. Standard error says why.
+In the program's repository docs/language.md has all that a model may hold, docs/codes.md each
+answer and what to do about it, docs/workers.md how many workers to take, and docs/tour.md two
+examples.";
+
+/// The command line of the program, whose words begin after the program's name.
 pub fn command<'a>(alloc: Global) -> Result<Command<'a>, AllocError>
     ensures { IfOk result (λ c. app_of c ≡ gpssbench) }
 {
@@ -86,6 +91,12 @@ pub fn command<'a>(alloc: Global) -> Result<Command<'a>, AllocError>
             "limit",
             "L",
             "Steps that a run may take: 1 to 1000000 [default: 1000000]",
+        ))?
+        .arg(option(
+            alloc,
+            "workers",
+            "W",
+            "Threads that simulate beside the session: 0 to 16 [default: 0]",
         ))
 }
 

@@ -67,7 +67,7 @@ fn model_text(fault: ModelFault) -> &'static [u8]
     }
 }
 
-/// The status of the program behind a fault: 1 for a refused model, 3 for the rest.
+/// The status of the program after a fault: 1 for a refused model, 3 for the rest.
 pub fn status(fault: &Fault) -> u8
     ensures { result ≡ status_of fault.now }
 {

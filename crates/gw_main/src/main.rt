@@ -4,8 +4,10 @@
 mod command;
 mod complaint;
 mod conversation;
+mod gate;
 mod number;
 mod run;
+mod sharing;
 mod words;
 
 use gw_script::{FromRead, ReadFault, ToWrite};
@@ -30,10 +32,18 @@ fn main(rt: HostRuntime) -> ExitCode {
     let mut reader = FromRead::new(input);
     let mut writer = ToWrite::new(rt.stdout());
     let open = |path: &str| model_file(&rt, path);
-    ExitCode::from(run(alloc, &words, open, &mut reader, &mut writer, &mut errors))
+    ExitCode::from(run(
+        &rt,
+        alloc,
+        &words,
+        open,
+        &mut reader,
+        &mut writer,
+        &mut errors,
+    ))
 }
 
-// The words behind the program's name.
+// The words after the program's name.
 fn words_of(rt: &(impl Env + AllocGlobal)) -> io::Result<Vec<String>> {
     let mut words = Vec::new(rt.alloc());
     for word in env::args(rt)?.skip(1) {

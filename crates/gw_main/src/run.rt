@@ -13,32 +13,43 @@ use gw_script::{Fault, Options, Over, ReadFault, Sink, Source};
 use std::alloc::Global;
 use std::convert::AsStr;
 use std::io::ErrorKind;
+use std::sync::Wait;
+use std::thread::Threads;
 
-/// Runs the program on the words behind its name. A model stands in front of the line `end` of the reader, with the
-/// script behind it, or in a file, which `opener` opens by its name, with the script on the reader.
+/// Runs the program on the words after its name. A model stands in front of the line `end` of the reader, with the
+/// script after it, or in a file, which `opener` opens by its name, with the script on the reader.
 ///
 /// The status is 0 where the script was served, or help was asked for; 1 where the model is refused; 2 where the words
 /// are; 3 where reading or writing failed, there were too many reads, or it is out of memory. Why it is not 0 is told
 /// to `errors`, as far as that takes it.
 pub fn run<
+    R: Threads + Wait + Sync,
     W: AsStr,
     F: Source + Drop,
     O: FnOnce(&str) -> Result<F, ReadFault>,
     S: Source,
     K: Sink,
     E: Sink,
->(alloc: Global, words: &[W], opener: O, reader: &mut S, writer: &mut K, errors: &mut E) -> u8
+>(
+    rt: &R,
+    alloc: Global,
+    words: &[W],
+    opener: O,
+    reader: &mut S,
+    writer: &mut K,
+    errors: &mut E,
+) -> u8
     requires { O.IsAlwaysCallable opener }
     ensures does { Does (FnOnceReturnsAt O.FnOnce opener)
         F.took F.ended F.failures S.took S.ended S.failures K.wrote K.failures E.wrote E.failures (map W.text words.now)
         reader.old reader.new writer.old writer.new errors.old errors.new result }
     // Without words the model stands on the reader, and the options are the usual ones.
     ensures usual { length words.now ≡ 0 →
-        Runs S.took S.ended S.failures K.wrote K.failures E.wrote E.failures Options.USUAL reader.old reader.new
+        Runs S.took S.ended S.failures K.wrote K.failures E.wrote E.failures 0 Options.USUAL reader.old reader.new
         writer.old writer.new errors.old errors.new result }
 {
     let meant = read_words(alloc, words);
-    proceed(alloc, meant, opener, reader, writer, errors)
+    proceed(rt, alloc, meant, opener, reader, writer, errors)
 }
 
 // What is told of a word that is no text, in the manner of clap.
@@ -72,7 +83,15 @@ pub fn not_opened(error: ErrorKind) -> ReadFault
 }
 
 // Does what the words came to.
-fn proceed<F: Source + Drop, O: FnOnce(&str) -> Result<F, ReadFault>, S: Source, K: Sink, E: Sink>(
+fn proceed<
+    R: Threads + Wait + Sync,
+    F: Source + Drop,
+    O: FnOnce(&str) -> Result<F, ReadFault>,
+    S: Source,
+    K: Sink,
+    E: Sink,
+>(
+    rt: &R,
     alloc: Global,
     meant: Result<Wanted<'_>, Refusal>,
     opener: O,
@@ -87,7 +106,7 @@ fn proceed<F: Source + Drop, O: FnOnce(&str) -> Result<F, ReadFault>, S: Source,
         reader.new writer.old writer.new errors.old errors.new result }
 {
     match meant {
-        Ok(wanted) => serve(alloc, wanted, opener, reader, writer, errors),
+        Ok(wanted) => serve(rt, alloc, wanted, opener, reader, writer, errors),
         Err(Refusal::Help(text)) => help(text.as_bytes(), writer, errors),
         Err(Refusal::Bad(text)) => decline(errors, text.as_bytes(), 2),
         Err(Refusal::Memory) => decline(errors, b"stopped: F6\n", 3),
@@ -95,7 +114,15 @@ fn proceed<F: Source + Drop, O: FnOnce(&str) -> Result<F, ReadFault>, S: Source,
 }
 
 // Runs what was asked for.
-fn serve<F: Source + Drop, O: FnOnce(&str) -> Result<F, ReadFault>, S: Source, K: Sink, E: Sink>(
+fn serve<
+    R: Threads + Wait + Sync,
+    F: Source + Drop,
+    O: FnOnce(&str) -> Result<F, ReadFault>,
+    S: Source,
+    K: Sink,
+    E: Sink,
+>(
+    rt: &R,
     alloc: Global,
     wanted: Wanted<'_>,
     opener: O,
@@ -107,17 +134,25 @@ fn serve<F: Source + Drop, O: FnOnce(&str) -> Result<F, ReadFault>, S: Source, K
     requires every { 1 ≤ wanted.options.every }
     ensures { RunsAt (FnOnceReturnsAt O.FnOnce opener)
         F.took F.ended F.failures S.took S.ended S.failures K.wrote K.failures E.wrote E.failures wanted.entry.model
-        wanted.entry.options reader.old reader.new writer.old writer.new errors.old errors.new result }
+        wanted.entry.workers wanted.entry.options reader.old reader.new writer.old writer.new errors.old errors.new result }
 {
     match wanted.model {
         ModelAt::Input => end(
             alloc,
-            converse(alloc, wanted.options, reader, writer),
+            converse(rt, alloc, wanted.workers, wanted.options, reader, writer),
             errors,
         ),
         ModelAt::File(path) => {
             let opened = opener(path);
-            let over = converse_over_file(alloc, wanted.options, opened, reader, writer);
+            let over = converse_over_file(
+                rt,
+                alloc,
+                wanted.workers,
+                wanted.options,
+                opened,
+                reader,
+                writer,
+            );
             end(alloc, over, errors)
         }
     }

@@ -14,7 +14,7 @@ use std::convert::AsStr;
 /// Where the model stands.
 #[derive(Clone, Copy)]
 pub enum ModelAt<'a> {
-    /// On standard input, up to its first line `end`; the script stands behind it.
+    /// On standard input, up to its first line `end`; the script stands after it.
     Input,
     /// In the file of this name, whole; the script stands on standard input.
     File(&'a str),
@@ -27,6 +27,8 @@ pub struct Wanted<'a> {
     pub model: ModelAt<'a>,
     /// What it is opened with.
     pub options: Options,
+    /// How many workers make steps beside the session, 0 to 16.
+    pub workers: u64,
 }
 
 /// Why the words ask for no run, with the text that says so.
@@ -50,7 +52,7 @@ impl From<AllocError> for Refusal {
     }
 }
 
-/// Reads the words behind the program's name: where the model stands, and the options.
+/// Reads the words after the program's name: where the model stands, and the options.
 ///
 /// Which word goes to which name, and which faults a line has, is what `clap` defines for a command of this kind, and
 /// its contracts say both exactly. They leave open which fault is told, where a line has several at one place, and they
@@ -69,9 +71,10 @@ pub fn read_words<'a, W: AsStr>(alloc: Global, words: &'a [W]) -> Result<Wanted<
         Err(error) => return Err(refusal_of(alloc, &error)),
     };
     match options_of(&matches) {
-        Ok(options) => Ok(Wanted {
+        Ok(said) => Ok(Wanted {
             model: model_at(matches.get_str("model")),
-            options,
+            options: said.options,
+            workers: said.workers,
         }),
         Err(bad) => Err(number_refusal(alloc, &mut command, bad)),
     }
@@ -95,17 +98,26 @@ fn model_at<'a>(word: Option<&'a str>) -> ModelAt<'a>
     }
 }
 
-fn options_of<'a>(matches: &ArgMatches<'a>) -> Result<Options, BadNumber<'a>>
-    ensures ok { IfOk result (SaysOptions (first_value (found_of matches.now))) }
+// What the options say.
+#[derive(Clone, Copy)]
+struct Said {
+    options: Options,
+    workers: u64,
+}
+
+fn options_of<'a>(matches: &ArgMatches<'a>) -> Result<Said, BadNumber<'a>>
+    ensures ok { IfOk result (λ said. SaysOptions (first_value (found_of matches.now)) said.options said.workers) }
     ensures err { OnErr result (HasBadNumber (first_value (found_of matches.now))) }
 {
     let usual = Options::USUAL;
-    Ok(Options {
+    let options = Options {
         seed: number(matches, "seed", 1, 2_147_483_646, usual.seed)?,
         horizon: number(matches, "horizon", 1, 1_000_000_000_000, usual.horizon)?,
         every: number(matches, "every", 1, 1_000_000, usual.every)?,
         limit: number(matches, "limit", 1, 1_000_000, usual.limit)?,
-    })
+    };
+    let workers = number(matches, "workers", 0, 16, 0)?;
+    Ok(Said { options, workers })
 }
 
 // The number that an option says.

@@ -75,13 +75,13 @@ pub ordered_all_lined : (xs ys : List Transaction) → IsOrdered ys → IsOrdere
 ordered_all_lined [] ys h = h
 ordered_all_lined (x ∷ xs) ys h = ordered_all_lined xs (lined_up x ys) (ordered_lined x ys h)
 
--- the one at the end of a front stands behind none of lower priority
+-- the one at the end of a front stands after none of lower priority
 not_above_last : (z : Transaction) (front : List Transaction) (y : Transaction) (back : List Transaction) → AreNotAbove z (front ++ y ∷ back) →
     is_below z.priority y.priority ≡ false
 not_above_last z [] y back h = h.0
 not_above_last z (w ∷ ws) y back h = not_above_last z ws y back h.1
 
--- behind y, where those behind y are of lower priority
+-- after y, where those after y are of lower priority
 pub lined_up_behind : (x : Transaction) (front : List Transaction) (y : Transaction) (back : List Transaction) → IsOrdered (front ++ y ∷ back) →
     is_below y.priority x.priority ≡ false → lined_up x back ≡ x ∷ back → lined_up x (front ++ y ∷ back) ≡ front ++ y ∷ x ∷ back
 lined_up_behind x [] y back h above rest = rw above (ap (λ zs. y ∷ zs) rest)

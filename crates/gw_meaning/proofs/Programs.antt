@@ -6,7 +6,7 @@ use Rattle.gw_meaning.specs.Machine.{Machine}
 use Rattle.gw_meaning.specs.Questions.{ask, Prog, Gives, Ends, Asks, result_of, items_of, ◌>>=◌}
 use Rattle.gw_meaning.specs.Step.{step, step_prog, run, run_prog}
 
--- the first program gives a: the result and the questions are those of the second on a, behind its own
+-- the first program gives a: the result and the questions are those of the second on a, after its own
 pub bind_gives : {A B : Type 0} (t : Listing) (seed : ℕ) (p : Prog A) (k : A → Prog B) (a : A) → result_of t seed p ≡ Ok a →
     (result_of t seed (p >>= k) ≡ result_of t seed (k a)) × (items_of t seed (p >>= k) ≡ items_of t seed p ++ items_of t seed (k a))
 bind_gives t seed (Gives b) k a is = let same : b ≡ a = cc in rw same (refl, refl)

@@ -1,5 +1,5 @@
 -- What an evaluation reads is told without changing it: with the trace it has the same result, the same end and the same
--- streams behind it, and it asks the same.
+-- streams after it, and it asks the same.
 use Rattle.std.proofs.Common.{◌≡◌, ◌⊎◌, ℤ, pos, ℕ, Bool, true, false, ◌||◌, List, [], ◌∷◌, ◌++◌, append-nil, Option, Some, None, Result, Ok, Err, refl, sym, ap, ap₂, ◌∙◌, inl, inr}
 use Rattle.std.specs.List.{list_any}
 use Rattle.std.proofs.lemmas.List.Folds.{list_any-append}

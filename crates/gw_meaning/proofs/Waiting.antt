@@ -65,7 +65,7 @@ some_wait = record zero_state {
       ∷ waits_for 1 (the_savevalue ∷ []) ∷ [];
 }
 
--- how it stands behind a move, and a move by which an entity is changed
+-- how it stands after a move, and a move by which an entity is changed
 abbrev after : Move → Machine
 after m = decided some_wait m []
 
@@ -194,7 +194,7 @@ complete_at_13 = refl
 -- ---- further examples
 
 -- 4 waits for facility 2, in block 1 and bound for 3; 5 waits for the counts of block 3: a RELEASE lets 4 in, and that
--- wakes 5, who goes behind
+-- wakes 5, who goes after
 abbrev two_chains : Machine
 two_chains = record zero_state {
   active = Some (at_block 9 5);
@@ -210,7 +210,7 @@ handed_over_before_woken :
     4 ∷ 5 ∷ []
 handed_over_before_woken = refl
 
--- whoever is refused stands behind the others
+-- whoever is refused stands after the others
 refused_stands_behind : numbers_waiting (after (moves.Watch (the_savevalue ∷ []))).retry ≡ 3 ∷ 2 ∷ 1 ∷ 9 ∷ []
 refused_stands_behind = refl
 
@@ -287,7 +287,7 @@ future_stays : (s : Machine) (m : Move) (drawn : List Stream) → (decided s m d
 future_stays s m drawn = refl
 
 -- ---- an example of the papers' kind: 1 waits for X1 and X2, 2 for X2; X1 wakes 1, which is refused again and waits
--- behind 2; X2 wakes 2 in front of 1. Where savevalue 3 is set in place of X1, 1 is woken first
+-- after 2; X2 wakes 2 in front of 1. Where savevalue 3 is set in place of X1, 1 is woken first
 
 abbrev savevalue_n : ℕ → Term
 savevalue_n n = Value (atoms.Attribute class.X (subjects.Number n))

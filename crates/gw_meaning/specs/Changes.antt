@@ -39,7 +39,7 @@ abbrev pub with_active : Option Transaction → (Transaction → Machine) → Ma
 with_active None f s = s
 with_active (Some x) f s = f x
 
--- the current chain with one more transaction: behind its equals, in front of the first of lower priority
+-- the current chain with one more transaction: after its equals, in front of the first of lower priority
 abbrev pub lined_up : Transaction → List Transaction → List Transaction
 lined_up x [] = x ∷ []
 lined_up x (y ∷ ys) = if is_below y.priority x.priority then x ∷ y ∷ ys else y ∷ lined_up x ys
@@ -57,7 +57,7 @@ left_at (Some c) counts id = with_count counts id (record c { content = c.conten
 abbrev pub left : List (ℕ × Count) → ℕ → List (ℕ × Count)
 left counts id = left_at (count_in counts id) counts id
 
--- the content of a block behind the entry of a transaction, which stays in it or is destroyed
+-- the content of a block after the entry of a transaction, which stays in it or is destroyed
 abbrev pub content_behind : Fate → ℕ → ℕ
 content_behind fates.Active content = raised content
 content_behind fates.Current content = raised content
@@ -159,7 +159,7 @@ joined disciplines.Lifo x xs = x ∷ xs
 abbrev pub linked_to : Discipline → Transaction → UserChain → UserChain
 linked_to discipline x c = record { entries = raised c.entries; members = joined discipline x c.members }
 
--- what becomes of the transaction x: it stays active, goes behind its equals on the current chain, is on the future
+-- what becomes of the transaction x: it stays active, goes after its equals on the current chain, is on the future
 -- chain or on a user chain, or is gone, with its parameters and with its count taken from the termination count, which
 -- completes the START at 0
 abbrev pub fated : Fate → Transaction → Machine → Machine
@@ -180,7 +180,7 @@ fated (fates.Destroyed count) x s =
       parameters = without s.parameters x.number;
     }
 
--- a transaction that waited at a block enters it, and goes to the current chain behind its equals
+-- a transaction that waited at a block enters it, and goes to the current chain after its equals
 abbrev pub let_in : Transaction → Option ℕ → Machine → Machine
 let_in x None s = record s { current = lined_up x s.current }
 let_in x (Some id) s =
@@ -190,7 +190,7 @@ let_in x (Some id) s =
 abbrev pub one_let_in : Key → Transaction → List Transaction → Machine → Machine
 one_let_in key x others s = let_in x x.destination (record s { delays = with_value s.delays key others })
 
--- of a delay chain, behind those who were passed over, each with a share is let in, one by one from the front
+-- of a delay chain, after those who were passed over, each with a share is let in, one by one from the front
 abbrev pub some_let_in : Key → List (Option ℕ) → List Transaction → List Transaction → Machine → Machine
 some_let_in key [] passed chain s = s
 some_let_in key (share ∷ shares) passed [] s = s
@@ -217,7 +217,7 @@ copied x number to = record x { number = number; destination = to }
 abbrev pub stood : List (ℕ × Count) → ℕ → List (ℕ × Count)
 stood counts id = let c = count_at counts id in with_count counts id (record c { content = raised c.content })
 
--- one more copy of x is made, with the next number and these parameters, and goes behind its equals
+-- one more copy of x is made, with the next number and these parameters, and goes after its equals
 abbrev pub one_copied : Option ℕ → Transaction → List (Key × ℤ) → Machine → Machine
 one_copied to x values s = record s {
   next = raised s.next;
@@ -240,7 +240,7 @@ abbrev pub with_members : List (Key × UserChain) → Key → List Transaction �
 with_members linked key xs =
     with_value linked key (record { entries = (user_chain_at linked key).entries; members = xs })
 
--- a transaction leaves a user chain, on which these stay, and goes behind its equals
+-- a transaction leaves a user chain, on which these stay, and goes after its equals
 abbrev pub one_unlinked : Key → Option ℕ → Transaction → List Transaction → Machine → Machine
 one_unlinked key to x others s =
     record s { current = lined_up (sent to x) s.current; linked = with_members s.linked key others }
@@ -281,7 +281,7 @@ refused s x id key units = record s {
   delays = with_value s.delays key (lined_up (bound x id units) (delay_at s.delays key));
 }
 
--- the transaction x is refused at a block, and waits as it came for a change of what its attempt read, behind all who
+-- the transaction x is refused at a block, and waits as it came for a change of what its attempt read, after all who
 -- wait so
 abbrev pub watching : Machine → Transaction → List Watched → Machine
 watching s x read =
@@ -392,6 +392,6 @@ woke ws others s = record s { current = all_lined_up (transactions_of ws) s.curr
 abbrev pub woken : List Watched → Machine → Machine
 woken list s = woke (filter (is_woken list) s.retry) (filter (λ w. not (is_woken list w)) s.retry) s
 
--- what a step does: its move, then those wake who wait for something that it wrote, with the streams behind its draws
+-- what a step does: its move, then those wake who wait for something that it wrote, with the streams after its draws
 abbrev pub decided : Machine → Move → List Stream → Machine
 decided s m streams = record (woken (written s m) (moved s m)) { streams = streams }

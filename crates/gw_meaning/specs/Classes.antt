@@ -10,7 +10,7 @@ pub record Scale : Type 0 where
   pub width : ℕ
   pub count : ℕ
 
--- the upper limit of the class behind so many others; the last class has none
+-- the upper limit of the class after so many others; the last class has none
 abbrev pub limit_of : Scale → ℕ → ℤ
 limit_of scale i = scale.first +ℤ pos (i * scale.width)
 

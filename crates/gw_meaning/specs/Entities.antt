@@ -90,7 +90,7 @@ abbrev pub done_to_storage : StorageDeed → ℕ → Store → Store
 done_to_storage (of_storage.Enter units) clock s = entered units clock s
 done_to_storage (of_storage.Leave units shares) clock s = all_entered shares clock (left units clock s)
 
--- who came to a queue, behind a deed
+-- who came to a queue, after a deed
 abbrev pub comings_behind : QueueDeed → Key → ℕ → List (Key × ℕ) → List (Key × ℕ)
 comings_behind (of_queue.Queue units) key number comings = with_coming comings key number
 comings_behind deed key number comings = comings

@@ -1,4 +1,4 @@
--- Values, attributes and draws. An evaluation goes from the streams before it to its result and the streams behind it,
+-- Values, attributes and draws. An evaluation goes from the streams before it to its result and the streams after it,
 -- so draws come in the order of evaluation. (Manual: operands, numerical attributes, and a time of A plus or minus B.
 -- Our own: whole numbers, what a draw stands for, and that the seed is asked for at a stream's first draw alone.)
 use Rattle.std.specs.Prelude.{ℕ, zero, suc, ◌+◌, ◌-◌, ◌*◌, ◌/◌, Bool, true, false, not, ◌&&◌, nat_le, List, [], ◌∷◌, length, Option, unwrap_or, Some, None, Result, Ok, Err, ℤ, pos, ◌+ℤ◌, ◌-ℤ◌, if◌then◌else◌}
@@ -356,7 +356,7 @@ abbrev pub watched_by : Question → Eval (List Watched)
 watched_by (AttributeOf class of) = watched_prog class of
 watched_by question = gives []
 
--- an evaluation in a state, with what it read behind what was read before. Its result, its end and its draws are those
+-- an evaluation in a state, with what it read after what was read before. Its result, its end and its draws are those
 -- of `evaluated`, and it asks nothing more.
 abbrev pub traced : {A : Type 0} → Machine → Asker → List Watched → Evaluation A → Eval (A × List Watched)
 traced s q read (Yields a) = gives (a, read)

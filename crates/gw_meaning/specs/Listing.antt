@@ -103,7 +103,7 @@ after_in [] number = None
 after_in (line ∷ lines) number =
     if line.number == number then (if is_block line then first_block lines else None) else after_in lines number
 
--- the position among the blocks, behind `before` of them, of the block with this number
+-- the position among the blocks, after `before` of them, of the block with this number
 abbrev pub position_in : ℕ → List Numbered → ℕ → Option ℕ
 position_in before [] number = None
 position_in before (line ∷ lines) number =

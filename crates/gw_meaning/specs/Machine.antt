@@ -52,7 +52,7 @@ pub record Machine : Type 0 where
   -- the parameters of each transaction that has some, by its number
   pub parameters : List (ℕ × List (Key × ℤ))
 
--- a chain in order of priority: no transaction stands behind one of lower priority
+-- a chain in order of priority: no transaction stands after one of lower priority
 abbrev pub AreInOrder : List Transaction → Type 0
 AreInOrder chain = AllPairs (λ (x y : Transaction). is_below x.priority y.priority ≡ false) chain
 

@@ -32,7 +32,7 @@ abbrev pub is_use : Item → Item → Bool
 is_use (items.Within time) (items.Within other) = nat_lt time other
 is_use item other = same_item other item
 
--- whether the i-th command or one behind it is read
+-- whether the i-th command or one after it is read
 abbrev pub is_command_use : ℕ → Item → Bool
 is_command_use i (items.Cmd j) = nat_le i j
 is_command_use i other = false

@@ -295,7 +295,7 @@ abbrev pub transfer_prog : ℕ → Option Term → Option Term → Option Term �
 transfer_prog id (Some (Fraction part)) near far = by_fraction id part near far
 transfer_prog id fraction near far = lead_to id near
 
--- MARK; PRIORITY, after which the transaction stays active; BUFFER, after which it stands behind its equals on the
+-- MARK; PRIORITY, after which the transaction stays active; BUFFER, after which it stands after its equals on the
 -- current chain, so that they move first.
 abbrev pub mark_prog : ℕ → Eval Move
 mark_prog id = gives (moves.Enter id (changes.Transaction own.Mark) fates.Active)
@@ -594,7 +594,7 @@ abbrev pub move_prog : Machine → ℕ → Eval Move
 move_prog s zero = asks (items.Cmd (raised s.commands)) (command_prog s)
 move_prog s (suc n) = scan_prog s s.active
 
--- the move of a step, and the streams behind it
+-- the move of a step, and the streams after it
 abbrev pub decide : Machine → Prog (Move × List Stream)
 decide s = move_prog s s.remaining s.streams
 

@@ -18,7 +18,7 @@ words_of s = option_to_list s.label ++ word_of (verb_of_body s.body) ∷ word_if
 abbrev pub text_of : Statement → List ℕ
 text_of s = join_with_byte 32 (words_of s)
 
--- the bytes that a label and the blank behind it take
+-- the bytes that a label and the blank after it take
 abbrev pub label_room : Option (List ℕ) → ℕ
 label_room None = 0
 label_room (Some label) = length label + 1

@@ -23,7 +23,7 @@ same_watched = comparison.ghosts.eq
 abbrev pub is_watched : List Watched → Watched → Bool
 is_watched list w = list_any (same_watched w) list
 
--- a list with one more, and with some more: behind the others, and once
+-- a list with one more, and with some more: after the others, and once
 abbrev pub with_watched : List Watched → Watched → List Watched
 with_watched list w = if is_watched list w then list else list ++ w ∷ []
 

@@ -1,4 +1,4 @@
-/// What stands beside the operands of a block: a sign behind operand A, as of an ASSIGN, or the operator in front of
+/// What stands beside the operands of a block: a sign after operand A, as of an ASSIGN, or the operator in front of
 /// them, as of a TEST. No verb takes both.
 #[derive(Clone, Copy)]
 pub enum Auxiliary {

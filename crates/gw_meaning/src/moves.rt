@@ -47,7 +47,7 @@ pub enum Change {
 pub enum Fate {
     /// It stays active.
     Active,
-    /// It goes to the current chain, behind its equals.
+    /// It goes to the current chain, after its equals.
     Current,
     /// It goes to the future chain.
     Delayed { until: Time },

@@ -15,7 +15,7 @@ use std::alloc::{AllocError, Global};
 pub struct Statement {
     pub label: Option<Name>,
     pub body: Body,
-    /// The operands as `list` prints them: as written, in upper case and without skipped blanks, and behind the
+    /// The operands as `list` prints them: as written, in upper case and without skipped blanks, and after the
     /// operator and one blank where the verb has an operator.
     pub operands: Row<u8>,
 }
@@ -43,9 +43,9 @@ pub enum Definition {
     Storage { capacity: u64 },
     /// The number that the name stands for.
     Equ { value: Val },
-    /// The expression that is evaluated wherever the name stands behind `V$`.
+    /// The expression that is evaluated wherever the name stands after `V$`.
     Variable { expression: Expr },
-    /// What an argument comes to, wherever the name stands behind `FN$`.
+    /// What an argument comes to, wherever the name stands after `FN$`.
     Function(Function),
     /// What a TABULATE of the name evaluates, and the classes in which a report counts the values.
     Table(Table),

@@ -88,7 +88,7 @@ impl Classes {
         self.count
     }
 
-    /// The upper limit of the class behind so many others. The last class has none.
+    /// The upper limit of the class after so many others. The last class has none.
     pub fn limit(self, i: u32) -> i32
         requires { i + 2 ≤ self.count }
         ensures { result ≡ limit_of self i }

@@ -27,7 +27,7 @@ impl Statement {
         Ok(())
     }
 
-    // How many bytes a label and the blank behind it take.
+    // How many bytes a label and the blank after it take.
     fn label_len(&self) -> usize
         ensures value { result ≡ label_room self.now.label }
         ensures bound { result ≤ 201 }

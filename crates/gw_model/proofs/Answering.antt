@@ -38,7 +38,7 @@ position_place index before (line ∷ lines) number =
     (place_in (index + 1) next lines number) (position_here (is_block line) index before (first_block lines))
     (position_place (index + 1) next lines number)
 
--- the item behind the first ones
+-- the item after the first ones
 item_behind : (front lines : List Numbered) (line : Numbered) → slice_get (front ++ line ∷ lines) (length front) ≡ Some line
 item_behind [] lines line = refl
 item_behind (x ∷ front) lines line = item_behind front lines line

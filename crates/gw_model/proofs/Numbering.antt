@@ -3,7 +3,7 @@ use Rattle.gw_meaning.specs.declared.statement.Numbered.{Numbered}
 use Rattle.gw_meaning.specs.declared.statement.Statement.{Statement}
 use Rattle.gw_model.specs.Listed.{numbered}
 
--- one more statement is numbered behind the others
+-- one more statement is numbered after the others
 pub numbered_more : (first : ℕ) (statements : List Statement) (s : Statement) (n : ℕ) → n ≡ first + length statements →
     numbered first (statements ++ s ∷ []) ≡ numbered first statements ++ record { number = n; statement = s } ∷ []
 numbered_more first [] s n h =

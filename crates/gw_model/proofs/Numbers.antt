@@ -10,7 +10,7 @@ use Rattle.gw_meaning.specs.Numbers.{AreNumbered}
 use Rattle.gw_model.specs.Listed.{numbered}
 use Rattle.gw_model.specs.Spliced.{greatest_number, number_in, inserted, spliced}
 
--- a number that no line has: not the first one, and not those behind it
+-- a number that no line has: not the first one, and not those after it
 pub absent_first : (line : Numbered) (lines : List Numbered) (k : ℕ) → line_in (line ∷ lines) k ≡ None → ((line.number == k) ≡ false) × (line_in lines k ≡ None)
 absent_first line lines k h =
     (elim (line.number == k) as (λ b. cond b (Some line) (line_in lines k) ≡ None → (b ≡ false) × (line_in lines k ≡ None))

@@ -14,7 +14,7 @@ use Rattle.gw_model.specs.Listed.{counted_label}
 use Rattle.gw_model.specs.Tables.{is_told}
 use Rattle.gw_model.specs.declared.names.Names.{Names}
 
--- a label that stands twice behind the first lines stands twice
+-- a label that stands twice after the first lines stands twice
 pub twice_behind : (n : ℕ) (lines : List Numbered) → has_label_twice (drop n lines) ≡ true → has_label_twice lines ≡ true
 twice_behind zero lines h = h
 twice_behind (suc n) [] h = h

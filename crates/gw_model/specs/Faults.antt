@@ -21,7 +21,7 @@ use Rattle.gw_meaning.specs.declared.statement.Replication.{Replication}
 use Rattle.gw_model.specs.declared.fault.ModelFault.{ModelFault}
 use Rattle.gw_model.specs.declared.fault.ModelFault.TheVariants.{TooMany, BadSeed, BadHorizon, LabelTwice, NoSuchLabel, NoSuchDefinition, EquNamedDefinition, Memory}
 
--- the fault's number, which a report prints behind an M
+-- the fault's number, which a report prints after an M
 abbrev pub number_of : ModelFault → ℕ
 number_of TooMany = 5
 number_of BadSeed = 6

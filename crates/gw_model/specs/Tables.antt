@@ -20,7 +20,7 @@ abbrev pub nowhere : Place
 nowhere = record { after = None; index = 0; position = 0 }
 
 -- the place of the first statement with this number, if that is a block, where the first of these has the index and
--- stands behind `before` blocks
+-- stands after `before` blocks
 abbrev pub place_in : ℕ → ℕ → List Numbered → ℕ → Place
 place_in index before [] number = nowhere
 place_in index before (line ∷ lines) number =

@@ -36,7 +36,7 @@ pub enum ModelFault {
 }
 
 impl ModelFault {
-    /// The fault's number, 1 to 8, which a report prints behind an M.
+    /// The fault's number, 1 to 8, which a report prints after an M.
     pub fn number(self) -> u8
         ensures { result ≡ number_of self }
     {

@@ -42,7 +42,7 @@ pub fn spliced(
     Ok(made)
 }
 
-// Puts the inserted statement, if any, behind those that are made, with its id.
+// Puts the inserted statement, if any, after those that are made, with its id.
 fn put_inserted(
     made: &mut Vec<Numbered>,
     lines: &[Numbered],
@@ -59,7 +59,7 @@ fn put_inserted(
     }
 }
 
-// Puts a statement behind those that are made, with its id, if there is one for it.
+// Puts a statement after those that are made, with its id, if there is one for it.
 fn put(
     made: &mut Vec<Numbered>,
     number: Option<StatementId>,
@@ -95,7 +95,7 @@ fn greatest_number(lines: &[Numbered]) -> u64
     greatest
 }
 
-// Puts equal lines behind those that are made.
+// Puts equal lines after those that are made.
 fn copy_behind(
     alloc: Global,
     made: &mut Vec<Numbered>,

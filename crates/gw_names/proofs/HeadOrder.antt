@@ -12,12 +12,12 @@ use Rattle.gw_names.specs.Names.{name_of, is_name_byte}
 use Rattle.gw_names.specs.Heads.{bytes_from, head_of}
 use Rattle.gw_names.proofs.SameHeads.{above_zero, below_256, bytes_of_name, short_by_heads}
 
--- the number that bytes read as behind a number read so far: each is a further digit in base 256
+-- the number that bytes read as after a number read so far: each is a further digit in base 256
 read : ℕ → List ℕ → ℕ
 read so_far [] = so_far
 read so_far (b ∷ bs) = read (so_far * 256 + b) bs
 
--- what is less so far stays less, whatever as many bytes come behind it
+-- what is less so far stays less, whatever as many bytes come after it
 stays_less : (xs ys : List ℕ) → ((k : ℕ) → get_or xs k 0 < 256) → (n i j a b : ℕ) → a < b
     → read a (bytes_from xs i n) < read b (bytes_from ys j n)
 unfolding read
@@ -26,7 +26,7 @@ stays_less xs ys small (suc n) i j a b less =
     let here = small i in
     stays_less xs ys small n (suc i) (suc j) (a * 256 + get_or xs i 0) (b * 256 + get_or ys j 0) (omega arith)
 
--- the bytes behind the first byte of a list are those of its rest
+-- the bytes after the first byte of a list are those of its rest
 behind_first : (x : ℕ) (xs : List ℕ) (i n : ℕ) → bytes_from (x ∷ xs) (suc i) n ≡ bytes_from xs i n
 behind_first x xs i zero = refl
 behind_first x xs i (suc n) = ap (λ bs. get_or xs i 0 ∷ bs) (behind_first x xs (suc i) n)
@@ -47,7 +47,7 @@ less_first x y xs ys less = rw (less_cmp x y less) refl
 same_first : (x y : ℕ) (xs ys : List ℕ) → x ≡ y → slice_cmp nat_cmp (x ∷ xs) (y ∷ ys) ≡ slice_cmp nat_cmp xs ys
 same_first x y xs ys same = grind (arith, nat_tests)
 
--- the list that reads as less stands first, where that is known of the rests behind equal first bytes
+-- the list that reads as less stands first, where that is known of the rests after equal first bytes
 by_first : (so_far x y : ℕ) (xs ys : List ℕ) (n : ℕ) → list_all is_name_byte ys ≡ true
     → read (so_far * 256 + x) (bytes_from xs 0 n) < read (so_far * 256 + y) (bytes_from ys 0 n)
     → (x ≡ y → slice_cmp nat_cmp xs ys ≡ Less) → slice_cmp nat_cmp (x ∷ xs) (y ∷ ys) ≡ Less
@@ -77,7 +77,7 @@ less_by_bytes so_far (x ∷ xs) (y ∷ ys) (suc n) a b less =
     let rest_b = (and_parts _ _ b).1 in
     by_first so_far x y xs ys n rest_b behind (λ same. less_by_bytes (so_far * 256 + y) xs ys n rest_a rest_b (rw same at behind))
 
--- eight digits in base 256, each with its power, are the number that they read as one behind the other
+-- eight digits in base 256, each with its power, are the number that they read as one after the other
 eight_digits : (a b c d e f g h : ℕ) → a * 72057594037927936 + b * 281474976710656 + c * 1099511627776 + d * 4294967296
     + e * 16777216 + f * 65536 + g * 256 + h ≡ (((((((0 * 256 + a) * 256 + b) * 256 + c) * 256 + d) * 256 + e) * 256 + f) * 256 + g) * 256 + h
 eight_digits a b c d e f g h = omega arith

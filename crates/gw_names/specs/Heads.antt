@@ -2,7 +2,7 @@
 use Rattle.std.specs.Prelude.{ℕ, ◌+◌, ◌*◌, ◌%◌, ◌^◌, zero, suc, List, [], ◌∷◌, slice_index}
 use Rattle.std.specs.Int.{w64, from_be_bytes}
 
--- so many bytes of a text from an index on, with zeros behind its end
+-- so many bytes of a text from an index on, with zeros after its end
 abbrev pub bytes_from : List ℕ → ℕ → ℕ → List ℕ
 bytes_from text i zero = []
 bytes_from text i (suc n) = slice_index text i ∷ bytes_from text (suc i) n
@@ -11,7 +11,7 @@ bytes_from text i (suc n) = slice_index text i ∷ bytes_from text (suc i) n
 unfoldable pub head_of : List ℕ → ℕ
 head_of text = from_be_bytes w64 (bytes_from text 0 8)
 
--- the mark of a text behind one with this mark
+-- the mark of a text after one with this mark
 abbrev pub mark_from : ℕ → List ℕ → ℕ
 mark_from mark [] = mark
 mark_from mark (b ∷ bs) = mark_from ((mark * 31 % 2 ^ 64 + b) % 2 ^ 64) bs

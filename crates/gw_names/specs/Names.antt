@@ -8,7 +8,7 @@ use Rattle.gw_names.specs.Words.{upper_of, verb_of, is_class}
 abbrev pub is_name_byte : ℕ → Bool
 is_name_byte b = is_ascii_alphanumeric b || b == 95
 
--- a letter and up to 199 letters, digits and `_` behind it
+-- a letter and up to 199 letters, digits and `_` after it
 abbrev pub is_name_text : List ℕ → Bool
 is_name_text [] = false
 is_name_text (b ∷ bs) = is_ascii_alphabetic b && (nat_le (length bs) 199 && list_all is_name_byte bs)

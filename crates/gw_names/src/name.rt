@@ -182,7 +182,7 @@ impl PartialOrd for Name {
     }
 }
 
-// A letter and up to 199 letters, digits and `_` behind it.
+// A letter and up to 199 letters, digits and `_` after it.
 fn is_name_text(text: &[u8]) -> bool
     ensures { result ≡ is_name_text text.now }
 {

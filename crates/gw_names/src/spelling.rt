@@ -1,7 +1,7 @@
 ghost use Rattle.std.specs.Prelude.{◌≡◌, slice_index};
 ghost use Rattle.gw_names.specs.Heads.{head_of, mark_of};
 
-/// How a name is spelled, with its head: the first eight bytes as a big-endian number, with zeros behind a shorter
+/// How a name is spelled, with its head: the first eight bytes as a big-endian number, with zeros after a shorter
 /// name. Names whose heads differ are told apart by them alone. The mark, which spreads names over slots, is kept, too.
 #[derive(Drop)]
 pub struct Spelling {
@@ -44,7 +44,7 @@ fn head_of(bytes: &[u8]) -> u64
     ])
 }
 
-// The byte at an index, or zero behind the last.
+// The byte at an index, or zero after the last.
 fn byte_or_zero(bytes: &[u8], index: usize) -> u8
     ensures { result ≡ slice_index bytes.now index }
 {

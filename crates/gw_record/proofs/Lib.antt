@@ -4,3 +4,4 @@ pub mod KeepLaws
 pub mod ReachLaws
 pub mod CutLaws
 pub mod CarryLaws
+pub mod AdoptLaws

@@ -81,7 +81,7 @@ tip_is_end t seed r h more =
       first = λ m u less is done. let few = h.all_ends m u less is in absurd (omega (arith, few, done));
     }
 
--- where no more are complete, a START end at a tip behind the start is noted and kept
+-- where no more are complete, a START end at a tip after the start is noted and kept
 pub end_is_there :
     (t : Listing) (seed k : ℕ) (r : Tape) → Records t seed r → r.start < r.moment → r.tip.complete ≤ length r.ends →
     IsStartEnd t seed k r.moment → IsThere r.kept r.moment

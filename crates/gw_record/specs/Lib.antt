@@ -6,4 +6,5 @@ pub mod Cutting
 pub mod Reaching
 pub mod Lookups
 pub mod Carrying
+pub mod Adopting
 pub use Rattle.gw_meaning.specs.Reads

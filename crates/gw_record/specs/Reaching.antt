@@ -15,6 +15,6 @@ Reaches t seed k r (reaches.Ended end) = (r.tip.complete < k) × (step t seed r.
 Reaches t seed k r reaches.Limit =
     (r.tip.complete < k) × (t.limit ≤ r.moment) × ((u : Machine) × (step t seed r.tip ≡ Ok u))
 
--- from each moment left behind a step was wanted: fewer than k STARTs were complete
+-- from each moment left after a step was wanted: fewer than k STARTs were complete
 abbrev pub AreWanted : Listing → ℕ → ℕ → ℕ → ℕ → Type 0
 AreWanted t seed k from to = (m : ℕ) (s : Machine) → from ≤ m → m < to → run t seed m ≡ Ok s → s.complete < k

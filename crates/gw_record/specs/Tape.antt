@@ -56,7 +56,7 @@ pub record IsOfRun (t : Listing) (seed : ℕ) (r : Tape) (e : Kept) : Type 0 whe
   pub from : r.start ≤ e.moment
   pub below : e.moment ≤ r.moment
 
--- the moment of the k-th START end, for k from 1, whose state is kept if it lies behind the start
+-- the moment of the k-th START end, for k from 1, whose state is kept if it lies after the start
 pub record IsEndThere (t : Listing) (seed : ℕ) (r : Tape) (k m : ℕ) : Type 0 where
   pub end : IsStartEnd t seed k m
   pub below : m ≤ r.moment

@@ -10,7 +10,7 @@ use std::mem;
 
 impl Recorded {
     /// Goes back to the last kept moment at or before `moment`, which is never before the start. What came after it is
-    /// forgotten. At the tip's moment or behind it nothing changes. It takes no memory.
+    /// forgotten. At the tip's moment or after it nothing changes. It takes no memory.
     pub fn cut(&mut self, moment: u64)
         requires { self.old.start ≤ moment }
         ensures records { (t : Listing) (seed : ℕ) → Records t seed self.old → Records t seed self.new }
@@ -20,7 +20,7 @@ impl Recorded {
         ensures start { self.new.start ≡ self.old.start }
     {
         if moment < self.moment {
-            // Until it has gone back, a state may be due at the multiples behind those that go.
+            // Until it has gone back, a state may be due at the multiples after those that go.
             self.due = 0;
             let count = count_until(self.kept.as_slice(), moment);
             self.kept.truncate(count);

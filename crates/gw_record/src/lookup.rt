@@ -16,7 +16,7 @@ use gw_state::State;
 
 impl Recorded {
     /// The state after so many steps, where it is kept: at the start, at the multiples of the spacing and the START
-    /// ends behind it, and at the tip. There is none before the start or behind the tip.
+    /// ends after it, and at the tip. There is none before the start or after the tip.
     pub fn state_at(&self, moment: u64) -> Option<&State>
         ensures { (t : Listing) (seed : ℕ) → Records t seed self.now →
             IsStateAt t seed self.now moment (option_copied result) }
@@ -53,7 +53,7 @@ impl Recorded {
         self.first_use(&Item::Within(time))
     }
 
-    /// The first step below the tip, from 0, that read the i-th command, from 1, or one behind it, if any did.
+    /// The first step below the tip, from 0, that read the i-th command, from 1, or one after it, if any did.
     pub fn first_command(&self, i: u64) -> Option<u64>
         ensures { (t : Listing) (seed : ℕ) → Records t seed self.now →
             result ≡ first_reading (is_command_use i) t seed self.now.moment }
@@ -63,7 +63,7 @@ impl Recorded {
 
     /// The first step below the tip, from 0, that asked of the storage of this name an amount that fits one of two
     /// capacities and not the other, or the capacity where the two differ, if any did. Without a storage before or
-    /// behind, any amount counts, and the capacity does.
+    /// after, any amount counts, and the capacity does.
     pub fn first_ask(&self, name: &Name, from: Option<u64>, to: Option<u64>) -> Option<u64>
         ensures { (t : Listing) (seed : ℕ) → Records t seed self.now →
             result ≡ first_reading (is_ask name.now from to) t seed self.now.moment }

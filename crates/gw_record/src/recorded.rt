@@ -75,7 +75,14 @@ impl Recorded {
         }
     }
 
-    /// The moment from which on it keeps states: 0, or where [`Recorded::into_branch`] made a branch. No other call
+    /// At the multiples of this moment it keeps states, from its start on.
+    pub fn every(&self) -> u64
+        ensures { result ≡ self.now.every }
+    {
+        self.every
+    }
+
+    /// The moment from which on it keeps states: 0, or where [`Recorded::branch`] made a branch. No other call
     /// changes it.
     pub fn start(&self) -> u64
         ensures { result ≡ self.now.start }

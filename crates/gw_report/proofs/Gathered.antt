@@ -50,7 +50,7 @@ run_within (z ∷ zs) (suc i) run le h =
     (let same : suc i + k ≡ suc (i + k) = omega arith in subst (λ (n : ℕ). slice_get (z ∷ zs) n ≡ slice_get run k) same (h k lt))) in
     omega (arith, more)
 
--- values behind values
+-- values after values
 pub values_behind : (xs ys : List ℤ) → AreValues xs → AreValues ys → AreValues (xs ++ ys)
 values_behind xs ys front back k lt = elim (cases_Bool (nat_lt k (length xs))) [
   | inl is ↦

@@ -16,7 +16,7 @@ blank_from line from to order blank =
     ap (λ n. drop n line) place ∙ sym (drop-drop (to - from) from line) ∙ ap (drop (to - from)) blank ∙
     drop-replicate (to - from) (length line - from) 32 ∙ ap blanks left
 
--- behind a gap
+-- after a gap
 pub gap_blank : {items line : List ℕ} (end gap : ℕ) → line ≡ items → IsBlankFrom end items → IsBlankFrom (end + gap) line
 gap_blank {items} end gap is blank = rw is (blank_from items end (end + gap) (omega arith) blank)
 
@@ -88,11 +88,11 @@ digits_laid old new digits from start end order long within blank written before
       len = same;
     }
 
--- behind what is laid out there are blanks
+-- after what is laid out there are blanks
 pub laid_blank : (old new text : List ℕ) (from to : ℕ) → from ≤ to → IsBlankFrom from old → Laid old new from text to → IsBlankFrom to new
 laid_blank old new text from to order blank laid = laid.behind ∙ blank_from old from to order blank ∙ ap (λ n. blanks (n - to)) (sym laid.len)
 
--- a cell behind a gap
+-- a cell after a gap
 pub laid_more : (line new cell : List ℕ) (end gap to : ℕ) → end + gap ≤ length line → IsBlankFrom end line → Laid line new (end + gap) cell to →
     take to new ≡ take end line ++ (blanks gap ++ cell)
 laid_more line new cell end gap to within blank laid =
@@ -100,7 +100,7 @@ laid_more line new cell end gap to within blank laid =
     laid.bytes ∙ ap (λ l. l ++ cell) (blank_to line end (end + gap) (omega arith) within blank ∙ ap (λ n. take end line ++ blanks n) wide) ∙
     append_assoc (take end line) (blanks gap) cell
 
--- a cell of a sheet, behind a gap: the line is the sheet's list whole, and stands there then
+-- a cell of a sheet, after a gap: the line is the sheet's list whole, and stands there then
 pub cell_laid : {items line new : List ℕ} {len : ℕ} (side : Side) (text : List ℕ) (end gap width : ℕ) → line ≡ items → len ≡ length items →
     end + gap + width ≤ length items → IsBlankFrom end items →
     Laid line new (end + gap) (fitted side (end + gap + width - (end + gap)) text) (end + gap + width) →

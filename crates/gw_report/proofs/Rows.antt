@@ -23,7 +23,7 @@ pub signed_is : (z : ℤ) → signed z ≡ signed_decimal z
 signed_is (pos n) = refl
 signed_is (negsuc n) = ap (λ m. 45 ∷ decimal m) (add-one n)
 
--- an element that is read, in front of those behind it
+-- an element that is read, in front of those after it
 pub got_drop : {X : Type 0} (xs : List X) (i : ℕ) (x : X) → slice_get xs i ≡ Some x → drop i xs ≡ x ∷ drop (i + 1) xs
 got_drop xs i x h =
     let within = slice_get_within xs i x h in

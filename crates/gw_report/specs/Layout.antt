@@ -24,7 +24,7 @@ fitted side.Right width text = blanks (width - length text) ++ text
 abbrev pub cell_of : Column → List ℕ → List ℕ
 cell_of column text = fitted column.side column.width text
 
--- texts in columns, each behind a separator, the first behind `before`, and the end of the line
+-- texts in columns, each after a separator, the first after `before`, and the end of the line
 abbrev pub row_behind : List ℕ → List Column → List (List ℕ) → List ℕ
 row_behind before [] texts = 10 ∷ []
 row_behind before (column ∷ columns) [] = 10 ∷ []

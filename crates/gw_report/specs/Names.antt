@@ -63,7 +63,7 @@ each_once (name ∷ names) = name ∷ filter (λ other. not (bytes_eq other name
 abbrev pub names_in : Listing → List (List ℕ)
 names_in t = each_once (flat_map names_of t.lines)
 
--- the value of a name that labels a block, or none; and the next free value behind it
+-- the value of a name that labels a block, or none; and the next free value after it
 abbrev pub value_by : Listing → ℕ → Option ℕ → ℕ
 value_by t next None = next
 value_by t next (Some id) = position_of t (Some id)

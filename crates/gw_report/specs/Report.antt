@@ -15,7 +15,7 @@ use Rattle.gw_report.specs.Storages.{storages_text}
 use Rattle.gw_report.specs.Tables.{tables_text}
 use Rattle.gw_report.specs.Chains.{current_text, future_text}
 
--- how the run of a START stands, as a word; a stop with its number behind an X
+-- how the run of a START stands, as a word; a stop with its number after an X
 unfoldable pub outcome_text : Outcome → List ℕ
 outcome_text Complete = codes "COMPLETE"
 outcome_text Horizon = codes "HORIZON"
@@ -50,7 +50,7 @@ unfoldable pub head_text : Listing → Machine → List ℕ
 head_text t s = table_of head_columns ((decimal s.since ∷ decimal s.clock ∷ decimal (length (filter is_block t.lines)) ∷
     decimal (length s.entities.facilities) ∷ decimal (length s.entities.storages) ∷ []) ∷ [])
 
--- the whole report, section behind section
+-- the whole report, section after section
 unfoldable pub text_of : Listing → ℕ → ℕ → Machine → Outcome → List ℕ
 text_of t rep k s outcome = title_text rep (seed_of t rep) k outcome ++ head_text t s ++ names_text t ++
     blocks_text t s ++ facilities_text s ++ queues_text s ++ storages_text t s ++ tables_text t s ++

@@ -41,7 +41,7 @@ pub fn put_row(sheet: &mut Sheet, columns: &[Column], cells: &[Cell]) -> Result<
     sheet.end_row()
 }
 
-// Appends a cell behind a gap.
+// Appends a cell after a gap.
 fn put_cell(sheet: &mut Sheet, gap: usize, column: &Column, cell: &Cell) -> Result<(), AllocError>
     requires { gap ≤ 1 }
     ensures { OnOk result (sheet.new ≡ sheet.old ++
@@ -56,7 +56,7 @@ fn put_cell(sheet: &mut Sheet, gap: usize, column: &Column, cell: &Cell) -> Resu
     }
 }
 
-/// Appends a cell behind a gap: a number.
+/// Appends a cell after a gap: a number.
 pub fn put_number(
     sheet: &mut Sheet,
     gap: usize,
@@ -91,7 +91,7 @@ fn put_signed(
     sheet.put_text(gap, width, side, digits.format(value.get()).as_bytes())
 }
 
-/// Appends a cell behind a gap: a number of thousandths, in three decimals.
+/// Appends a cell after a gap: a number of thousandths, in three decimals.
 pub fn put_thousandths(
     sheet: &mut Sheet,
     gap: usize,
@@ -114,7 +114,7 @@ pub fn put_thousandths(
     }
 }
 
-/// The three decimals of a number of thousandths, behind a point.
+/// The three decimals of a number of thousandths, after a point.
 pub fn fraction_of(number: u128) -> [u8; 4]
     ensures { result ≡ fraction_of number }
 {

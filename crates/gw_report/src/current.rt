@@ -10,7 +10,7 @@ use gw_model::Version;
 use gw_state::State;
 use std::alloc::{AllocError, Global};
 
-/// Appends the current chain behind the active transaction.
+/// Appends the current chain after the active transaction.
 pub fn put_current(out: &mut Vec<u8>, version: &Version, state: &State) -> Result<(), AllocError>
     ensures { OnOk result (out.new.items ≡ out.old.items ++ current_text version.now state.now) }
 {

@@ -170,7 +170,7 @@ fn name_lines(alloc: Global, version: &Version, names: &[Key]) -> Result<Sheet, 
     Ok(lines)
 }
 
-// The line of a name. Returns the next value behind it.
+// The line of a name. Returns the next value after it.
 #[tactic(auto, unfolding(crate::specs::Layout::row_of))]
 fn put_name(out: &mut Sheet, version: &Version, next: u64, name: &Name) -> Result<u64, AllocError>
     requires { next < 2 ^ 64 - 1 }

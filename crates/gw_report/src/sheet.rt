@@ -17,7 +17,7 @@ const ROOM: usize = 1000;
 // How many of them a row finds. The widest row of a report takes fewer.
 const ROW: usize = 128;
 
-/// The lines of a section. Behind them stand blanks, over which the next cells are written.
+/// The lines of a section. After them stand blanks, over which the next cells are written.
 #[derive(Drop)]
 pub struct Sheet {
     bytes: Vec<u8>,
@@ -73,7 +73,7 @@ impl Sheet {
         Ok(())
     }
 
-    /// Appends a cell behind a gap: a text on one side of a width.
+    /// Appends a cell after a gap: a text on one side of a width.
     #[inline(always)]
     pub fn put_text(
         &mut self,
@@ -94,7 +94,7 @@ impl Sheet {
         self.put_apart(gap, width, side, text, b"")
     }
 
-    /// Appends a cell behind a gap: a number on the right of a width.
+    /// Appends a cell after a gap: a number on the right of a width.
     #[inline(always)]
     pub fn put_number(&mut self, gap: usize, width: usize, number: u64) -> Result<(), AllocError>
         requires { gap ≤ 1 }
@@ -125,7 +125,7 @@ impl Sheet {
         )
     }
 
-    /// Appends a cell behind a gap: a number with its sign on the right of a width.
+    /// Appends a cell after a gap: a number with its sign on the right of a width.
     #[inline(always)]
     pub fn put_signed(&mut self, gap: usize, width: usize, value: Val) -> Result<(), AllocError>
         requires { gap ≤ 1 }
@@ -160,7 +160,7 @@ impl Sheet {
         self.put_text(0, 1, Side::Left, b"\n")
     }
 
-    /// Appends a cell behind a gap, a text of two parts, without writing it over the blanks, which are cut off.
+    /// Appends a cell after a gap, a text of two parts, without writing it over the blanks, which are cut off.
     #[cold]
     #[inline(never)]
     pub fn put_apart(
@@ -180,7 +180,7 @@ impl Sheet {
     }
 }
 
-// Appends a text of two parts behind a gap, on one side of a width.
+// Appends a text of two parts after a gap, on one side of a width.
 fn put_parts(
     out: &mut Vec<u8>,
     gap: usize,

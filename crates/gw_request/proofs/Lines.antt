@@ -60,6 +60,7 @@ command_again (Single singles.Drop) = refl
 command_again (Single singles.Horizon) = refl
 command_again (Pair pairs.Report) = refl
 command_again (Pair pairs.Peek) = refl
+command_again (Pair pairs.Work) = refl
 command_again (Single singles.All) = refl
 command_again (Bare bares.List) = refl
 command_again (Bare bares.Quit) = refl
@@ -75,6 +76,7 @@ letters (Single singles.Drop) = refl
 letters (Single singles.Horizon) = refl
 letters (Pair pairs.Report) = refl
 letters (Pair pairs.Peek) = refl
+letters (Pair pairs.Work) = refl
 letters (Single singles.All) = refl
 letters (Bare bares.List) = refl
 letters (Bare bares.Quit) = refl
@@ -93,6 +95,7 @@ not_blank (Single singles.Drop) behind = refl
 not_blank (Single singles.Horizon) behind = refl
 not_blank (Pair pairs.Report) behind = refl
 not_blank (Pair pairs.Peek) behind = refl
+not_blank (Pair pairs.Work) behind = refl
 not_blank (Single singles.All) behind = refl
 not_blank (Bare bares.List) behind = refl
 not_blank (Bare bares.Quit) behind = refl
@@ -116,7 +119,7 @@ solid_text (b ∷ bs) h =
 solid_name : (spelling name : List ℕ) → name_of spelling ≡ Some name → Solid spelling
 solid_name spelling name e = solid_text spelling (is_text spelling name e)
 
--- ---- what stands behind a word
+-- ---- what stands after a word
 
 alone_found : (f : Form) (r : Request) → asked_alone f ≡ Some r → Behind f [] r
 alone_found (Alone q) r e = subst (Behind (Alone q) []) (same_Some q r e) (nothing q)
@@ -164,7 +167,7 @@ with_found (NameAndNumber f) b words r blank e =
     (subst (Behind (NameAndNumber f) (b ∷ (p.0.0 ++ h.blank ∷ p.0.1))) (same_Some (f name.0 n.0) r name.2)
     (name_and_number f b p.0.0 h.blank p.0.1 name.0 n.0 blank name.1 h.is (number_found p.0.1 n.0 n.1)))
 
--- what is read behind a word: nothing, or words behind a blank
+-- what is read after a word: nothing, or words after a blank
 abbrev Reads : Form → List ℕ → Request → Type 0
 Reads f behind r = ((behind ≡ []) × (asked_alone f ≡ Some r)) ⊎
     ((b : ℕ) × (words : List ℕ) × (behind ≡ b ∷ words) × (is_blank b ≡ true) × (asked_with f words ≡ Some r))
@@ -211,6 +214,7 @@ are_asked (Single singles.Drop) = λ n. refl
 are_asked (Single singles.Horizon) = λ n. refl
 are_asked (Pair pairs.Report) = λ m n. refl
 are_asked (Pair pairs.Peek) = λ m n. refl
+are_asked (Pair pairs.Work) = λ m n. refl
 are_asked (Single singles.All) = λ n. refl
 are_asked (Bare bares.List) = refl
 are_asked (Bare bares.Quit) = refl
@@ -237,7 +241,7 @@ with_command : (o : Option Command) (words : Option (List ℕ)) (r : Request) �
 with_command None words r e asked = absurd (not_asked (requests.Bad reasons.Command) r e refl asked)
 with_command (Some c) words r e asked = (c, refl, arguments_found c (request_in c words) r e asked)
 
--- a line with a command's first word asks for what is read behind that
+-- a line with a command's first word asks for what is read after that
 pub asks_by : (line : List ℕ) (r : Request) (o : Option (List ℕ × List ℕ)) → cut line ≡ o → length line ≤ 65536 →
     (c : Command) → command_of (word_at line o).0 ≡ Some c → request_in c (word_at line o).1 ≡ Some r → AsksFor line r
 asks_by line r None there short c is asks = record {

@@ -124,6 +124,7 @@ asked_says line (requests.Bad why) asked = absurd (true≢false (sym asked))
 asked_says line (requests.Edit e) asked = tt
 asked_says line (requests.Report rep k) asked = tt
 asked_says line (requests.Peek rep k) asked = tt
+asked_says line (requests.Work rep steps) asked = tt
 asked_says line (requests.All k) asked = tt
 asked_says line requests.List asked = tt
 asked_says line requests.Quit asked = tt

@@ -1,5 +1,5 @@
--- How what stands behind a command's word is read, by the command's form.
-use Rattle.std.specs.Prelude.{ℕ, Bool, true, false, List, Option, Some, None}
+-- How what stands after a command's word is read, by the command's form.
+use Rattle.std.specs.Prelude.{ℕ, Bool, true, false, List, Option, Some, None, is_some}
 use Rattle.gw_names.specs.Names.{name_of}
 use Rattle.gw_request.specs.declared.command.Command.{Command}
 use Rattle.gw_request.specs.declared.request.Request.{Request}
@@ -7,7 +7,7 @@ use Rattle.gw_request.specs.Commands.{Form, Alone, Number, TwoNumbers, NumberAnd
 use Rattle.gw_request.specs.Words.{cut}
 use Rattle.gw_request.specs.Numbers.{◌>>=◌, number_of, next_number}
 
--- what a line asks for with the words behind its first blank
+-- what a line asks for with the words after its first blank
 abbrev pub asked_with : Form → List ℕ → Option Request
 asked_with (Alone r) words = None
 asked_with (Number f) words = do
@@ -31,17 +31,18 @@ abbrev pub asked_alone : Form → Option Request
 asked_alone (Alone r) = Some r
 asked_alone form = None
 
--- what a command asks for with what stands behind its blank, where it has one
+-- what a command asks for with what stands after its blank, where it has one
 abbrev pub request_in : Command → Option (List ℕ) → Option Request
 request_in c None = asked_alone (form_of c)
 request_in c (Some words) = asked_with (form_of c) words
 
--- whether a form has a text or a name, which is copied
-abbrev pub is_copied : Form → Bool
-is_copied (NumberAndText f) = true
-is_copied (NameAndNumber f) = true
-is_copied form = false
+-- whether a form has a text after a number that is one, or a name before one: it is copied
+abbrev pub is_copied : Form → List ℕ → Bool
+is_copied (NumberAndText f) words = is_some (next_number words)
+is_copied (NameAndNumber f) words = is_some (cut words >>= (λ p. number_of p.1))
+is_copied form words = false
 
--- whether a command's text or name is copied
-abbrev pub copies_words : Command → Bool
-copies_words c = is_copied (form_of c)
+-- whether a command's text or name is copied, with what stands after its blank, where it has one
+abbrev pub copies_words : Command → Option (List ℕ) → Bool
+copies_words c None = false
+copies_words c (Some words) = is_copied (form_of c) words

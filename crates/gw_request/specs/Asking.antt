@@ -32,7 +32,7 @@ pub record IsNumber (digits : List ℕ) (n : ℕ) : Type 0 where
 abbrev pub IsName : List ℕ → List ℕ → Type 0
 IsName spelling name = name_of spelling ≡ Some name
 
--- what stands behind a command's word, by the command's form, and what the line asks for then
+-- what stands after a command's word, by the command's form, and what the line asks for then
 pub data Behind : Form → List ℕ → Request → Type 0 where
   nothing : (r : Request) → Behind (Alone r) [] r
   number :
@@ -52,7 +52,7 @@ pub data Behind : Form → List ℕ → Request → Type 0 where
       IsBlank b → IsName spelling name → IsBlank d → IsNumber digits n →
       Behind (NameAndNumber f) (b ∷ (spelling ++ d ∷ digits)) (f name n)
 
--- a line asks for something: it is a command's word, and behind it stands what the command's form says
+-- a line asks for something: it is a command's word, and after it stands what the command's form says
 pub record AsksFor (line : List ℕ) (r : Request) : Type 0 where
   pub short : length line ≤ 65536
   pub command : Command
@@ -70,7 +70,7 @@ is_asked r = true
 abbrev pub LinesAsk : Type 0
 LinesAsk = (line : List ℕ) (r : Request) → ((request_of line ≡ r) × (is_asked r ≡ true)) ↔ AsksFor line r
 
--- what may stand behind a word: nothing, or a blank and more
+-- what may stand after a word: nothing, or a blank and more
 abbrev pub MayFollow : List ℕ → Type 0
 MayFollow [] = Unit {0}
 MayFollow (b ∷ bs) = IsBlank b

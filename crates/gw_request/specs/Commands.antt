@@ -1,4 +1,4 @@
--- The table of script lines: each command's word, what stands behind it, and what the line asks for. (Our own.)
+-- The table of script lines: each command's word, what stands after it, and what the line asks for. (Our own.)
 use Rattle.std.specs.Prelude.{ℕ, List, [], ◌∷◌, Option, codes, find}
 use Rattle.std.specs.Str.{bytes_eq}
 use Rattle.gw_touch.specs.declared.edit.Edit.TheVariants as edits
@@ -11,7 +11,7 @@ use Rattle.gw_request.specs.declared.command.Text.TheVariants as texts
 use Rattle.gw_request.specs.declared.request.Request.{Request}
 use Rattle.gw_request.specs.declared.request.Request.TheVariants as requests
 
--- what stands behind a command's word, and what the line asks for with it
+-- what stands after a command's word, and what the line asks for with it
 pub data Form : Type 0 where
   Alone : Request → Form
   Number : (ℕ → Request) → Form
@@ -32,6 +32,7 @@ row_of (Single singles.Horizon) = (codes "horizon", Number (λ t. requests.Edit 
 row_of (Pair pairs.Report) = (codes "report", TwoNumbers (λ r k. requests.Report r k))
 row_of (Pair pairs.Peek) = (codes "peek", TwoNumbers (λ r k. requests.Peek r k))
 row_of (Single singles.All) = (codes "all", Number (λ k. requests.All k))
+row_of (Pair pairs.Work) = (codes "work", TwoNumbers (λ r n. requests.Work r n))
 row_of (Bare bares.List) = (codes "list", Alone requests.List)
 row_of (Bare bares.Quit) = (codes "quit", Alone requests.Quit)
 
@@ -46,7 +47,7 @@ abbrev pub commands : List Command
 commands =
     Text texts.Insert ∷ Single singles.Delete ∷ Text texts.Change ∷ Capacity ∷ Pair pairs.Seed ∷ Pair pairs.Replicate ∷
     Single singles.Drop ∷ Single singles.Horizon ∷ Pair pairs.Report ∷ Pair pairs.Peek ∷ Single singles.All ∷
-    Bare bares.List ∷ Bare bares.Quit ∷ []
+    Pair pairs.Work ∷ Bare bares.List ∷ Bare bares.Quit ∷ []
 
 -- the command that a word is, if it is one
 unfoldable pub command_of : List ℕ → Option Command

@@ -9,7 +9,7 @@ infixl 10 ◌>>=◌
 abbrev pub ◌>>=◌ : {A B : Type 0} → Option A → (A → Option B) → Option B
 o >>= f = option_and_then f o
 
--- digits read behind a number
+-- digits read after a number
 abbrev pub value_of : ℕ → List ℕ → ℕ
 value_of n [] = n
 value_of n (b ∷ bs) = value_of (n * 10 + (b - 48)) bs
@@ -21,7 +21,7 @@ number_of word =
     then None
     else Some (value_of 0 word)
 
--- the number that the first word is, and what stands behind its blank
+-- the number that the first word is, and what stands after its blank
 abbrev pub next_number : List ℕ → Option (ℕ × List ℕ)
 next_number words = do
   p ← cut words

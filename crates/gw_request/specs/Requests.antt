@@ -9,7 +9,7 @@ use Rattle.gw_request.specs.Words.{is_blank, first_word}
 use Rattle.gw_request.specs.Commands.{command_of}
 use Rattle.gw_request.specs.Arguments.{request_in, copies_words}
 
--- what a first word that may be a command asks for with what stands behind its blank
+-- what a first word that may be a command asks for with what stands after its blank
 abbrev pub request_with : Option Command → Option (List ℕ) → Request
 request_with None words = requests.Bad reasons.Command
 request_with (Some c) words = unwrap_or (request_in c words) (requests.Bad reasons.Arguments)
@@ -24,10 +24,10 @@ request_of line =
     else request_with (command_of (first_word line).0) (first_word line).1)
 
 -- whether a first word that may be a command is one whose text or name is copied
-abbrev pub copies : Option Command → Bool
-copies None = false
-copies (Some c) = copies_words c
+abbrev pub copies : Option Command → Option (List ℕ) → Bool
+copies None words = false
+copies (Some c) words = copies_words c words
 
--- whether memory may be wanted for a line: one that is not too long, of a command that copies
+-- whether memory may be wanted for a line: one that is not too long, of a command that copies, with a number that is one
 abbrev pub may_want_memory : List ℕ → Bool
-may_want_memory line = nat_le (length line) 65536 && copies (command_of (first_word line).0)
+may_want_memory line = nat_le (length line) 65536 && copies (command_of (first_word line).0) (first_word line).1

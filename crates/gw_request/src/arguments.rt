@@ -1,4 +1,4 @@
-// What a command asks for with the words behind it: one reader for each form.
+// What a command asks for with the words after it: one reader for each form.
 ghost use Rattle.std.specs.Prelude.{◌≡◌, IfOk, OnErr, IsTrue, Some, option_copied};
 ghost use Rattle.gw_request.specs.declared.command.Command.TheVariants as commands;
 ghost use Rattle.gw_request.specs.Arguments.{request_in, copies_words};
@@ -12,14 +12,14 @@ use gw_names::Name;
 use gw_touch::Edit;
 use std::alloc::{AllocError, Global};
 
-// What a command asks for, where the words behind it are those that it takes.
+// What a command asks for, where the words after it are those that it takes.
 pub fn read_arguments(
     alloc: Global,
     command: Command,
     words: Option<&[u8]>,
 ) -> Result<Option<Request>, AllocError>
     ensures request { IfOk result (λ o. o ≡ request_in command (option_copied words.entry)) }
-    ensures memory { OnErr result (IsTrue (copies_words command)) }
+    ensures memory { OnErr result (IsTrue (copies_words command (option_copied words.entry))) }
 {
     match (command, words) {
         (Command::Bare(command), None) => Ok(Some(bare_request(command))),
@@ -68,11 +68,13 @@ fn read_pair(command: Pair, words: &[u8]) -> Option<Request>
         }),
         Pair::Report => Request::Report { rep, k: n },
         Pair::Peek => Request::Peek { rep, k: n },
+        Pair::Work => Request::Work { rep, steps: n },
     })
 }
 
 fn read_text(alloc: Global, command: Text, words: &[u8]) -> Result<Option<Request>, AllocError>
-    ensures { IfOk result (λ o. o ≡ request_in (commands.Text command) (Some words.now)) }
+    ensures request { IfOk result (λ o. o ≡ request_in (commands.Text command) (Some words.now)) }
+    ensures memory { OnErr result (IsTrue (copies_words (commands.Text command) (Some words.now))) }
 {
     let Some((place, behind)) = next_number(words) else {
         return Ok(None);
@@ -85,7 +87,8 @@ fn read_text(alloc: Global, command: Text, words: &[u8]) -> Result<Option<Reques
 }
 
 fn read_capacity(alloc: Global, words: &[u8]) -> Result<Option<Request>, AllocError>
-    ensures { IfOk result (λ o. o ≡ request_in commands.Capacity (Some words.now)) }
+    ensures request { IfOk result (λ o. o ≡ request_in commands.Capacity (Some words.now)) }
+    ensures memory { OnErr result (IsTrue (copies_words commands.Capacity (Some words.now))) }
 {
     let Some((word, behind)) = cut(words) else {
         return Ok(None);

@@ -2,7 +2,7 @@
 ghost use Rattle.std.specs.Prelude.{◌≡◌};
 ghost use Rattle.gw_request.specs.Commands.{word_of, command_of};
 
-/// A command of a script, by the shape of what stands behind its word.
+/// A command of a script, by the shape of what stands after its word.
 #[derive(Clone, Copy)]
 pub enum Command {
     /// No words.
@@ -11,7 +11,7 @@ pub enum Command {
     Single(Single),
     /// Two numbers.
     Pair(Pair),
-    /// A number, and a text that is all behind its blank.
+    /// A number, and a text that is all after its blank.
     Text(Text),
     /// A name and a number.
     Capacity,
@@ -40,6 +40,7 @@ pub enum Pair {
     Replicate,
     Report,
     Peek,
+    Work,
 }
 
 /// A command with a number and a text.
@@ -50,7 +51,7 @@ pub enum Text {
 }
 
 // Every command.
-const COMMANDS: [Command; 13] = [
+const COMMANDS: [Command; 14] = [
     Command::Text(Text::Insert),
     Command::Single(Single::Delete),
     Command::Text(Text::Change),
@@ -62,6 +63,7 @@ const COMMANDS: [Command; 13] = [
     Command::Pair(Pair::Report),
     Command::Pair(Pair::Peek),
     Command::Single(Single::All),
+    Command::Pair(Pair::Work),
     Command::Bare(Bare::List),
     Command::Bare(Bare::Quit),
 ];
@@ -83,6 +85,7 @@ impl Command {
             Command::Pair(Pair::Report) => b"report",
             Command::Pair(Pair::Peek) => b"peek",
             Command::Single(Single::All) => b"all",
+            Command::Pair(Pair::Work) => b"work",
             Command::Bare(Bare::List) => b"list",
             Command::Bare(Bare::Quit) => b"quit",
         }

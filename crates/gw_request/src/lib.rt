@@ -1,7 +1,7 @@
 //! What a script line asks for.
 //!
 //! [`request_of`] reads one line. The line is cut at its blanks (words), and its first word is looked up in the table
-//! of the commands (command). Each form of what stands behind a command word has one reader (arguments), and a word
+//! of the commands (command). Each form of what stands after a command word has one reader (arguments), and a word
 //! of 1 to 18 digits is a number (number). A further command is a further row of the table, with its form.
 #![tactic(auto)]
 

@@ -18,7 +18,7 @@ pub fn number_of(word: &[u8]) -> Option<u64>
     Some(value_of(word))
 }
 
-// The number that the first word is, and what stands behind its blank.
+// The number that the first word is, and what stands after its blank.
 pub fn next_number(words: &[u8]) -> Option<(u64, &[u8])>
     ensures { option_map (λ p. (p.0, p.1.now)) result ≡ next_number words.now }
 {

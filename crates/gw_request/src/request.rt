@@ -23,6 +23,8 @@ pub enum Request {
     Peek { rep: u64, k: u64 },
     /// The reports of a START of every replication.
     All { k: u64 },
+    /// So many steps more of a replication's run.
+    Work { rep: u64, steps: u64 },
     /// The lines of the version.
     List,
     /// The end of the session.
@@ -38,12 +40,12 @@ pub enum Reason {
     Long,
     /// Its first word is no command.
     Command,
-    /// The words behind the command are not those that it takes.
+    /// The words after the command are not those that it takes.
     Arguments,
 }
 
 /// What a script line, without its line end, asks for. Memory can be wanted only for a line of `insert`, `change`
-/// or `capacity`, whose text or name is copied.
+/// or `capacity` whose number is one: its text or name is copied.
 #[tactic(auto, unfolding(crate::specs::Requests::request_of))]
 pub fn request_of(alloc: Global, line: &[u8]) -> Result<Request, AllocError>
     ensures request { IfOk result (λ r. r ≡ request_of line.now) }

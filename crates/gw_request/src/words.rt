@@ -22,7 +22,7 @@ fn first_blank(line: &[u8]) -> Option<usize>
     line.iter().position(|b| is_blank(*b))
 }
 
-// What stands before the first blank, and what stands behind it.
+// What stands before the first blank, and what stands after it.
 pub fn cut(line: &[u8]) -> Option<(&[u8], &[u8])>
     ensures { option_map (λ p. (p.0.now, p.1.now)) result ≡ cut line.now }
 {
@@ -32,7 +32,7 @@ pub fn cut(line: &[u8]) -> Option<(&[u8], &[u8])>
     }
 }
 
-// The first word, and what stands behind its blank, where it has one.
+// The first word, and what stands after its blank, where it has one.
 pub fn first_word(line: &[u8]) -> (&[u8], Option<&[u8]>)
     ensures { (result.0.now, option_copied result.1) ≡ first_word line.now }
 {

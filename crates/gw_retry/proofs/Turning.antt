@@ -1,4 +1,4 @@
--- Those who wait are turned over: each is taken off the front, and who is not woken comes behind the others.
+-- Those who wait are turned over: each is taken off the front, and who is not woken comes after the others.
 use Rattle.std.proofs.Common.{◌≡◌, ℕ, suc, ◌≤◌, true, false, cond, not, List, [], ◌∷◌, ◌++◌, filter, length, take, drop, sym, ap, ap₂, subst, ◌∙◌, arith, append_assoc, append-nil}
 use Rattle.std.proofs.lemmas.List.{take_all, drop_all, take-append-le, drop-append-le, length-append}
 use Rattle.std.proofs.lemmas.List.Elements.{All-head, All-tail, All-push}
@@ -18,7 +18,7 @@ module _ (r : Readings) (written : List Watched) where
   abbrev others : List Waiting → List Waiting
   others ws = filter (stays r.lists written) ws
 
-  -- So many at the front are left: what is to come is what comes of all, and those behind them are who stays of the rest.
+  -- So many at the front are left: what is to come is what comes of all, and those after them are who stays of the rest.
   pub record Turning (all : List Waiting) (start : List Transaction) (items : List Waiting) (left : ℕ) (current : List Transaction) : Type 0 where
     pub listed : AreListed r items
     pub long : left ≤ length items
@@ -90,7 +90,7 @@ module _ (r : Readings) (written : List Watched) where
             (sym (ap (λ vs. all_lined_up (transactions_of vs) current) (woken_later items rest x left m are is rests)) ∙ p.come);
       }
 
-  -- one who goes behind the others takes nothing from those that are left
+  -- one who goes after the others takes nothing from those that are left
   pub woken_back : (items rest new : List Waiting) (x : Waiting) (left m : ℕ) → items ≡ x ∷ rest → left ≡ suc m → left ≤ length items →
       is_woken written (waiter_of r.lists x) ≡ false → new ≡ rest ++ x ∷ [] → woken (take m new) ≡ woken (take left items)
   woken_back items rest new x left m are is long rests more =

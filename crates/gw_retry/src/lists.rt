@@ -121,7 +121,7 @@ impl ReadLists {
         read.to_vec(self.allocator())
     }
 
-    // The place of a list, which comes behind the others where it is not there.
+    // The place of a list, which comes after the others where it is not there.
     fn add(&mut self, read: Vec<Watched>) -> Result<usize, AllocError>
         ensures there { IfOk result (λ i. slice_get self.new.lists i ≡ Some read.items) }
         ensures lists { Keeps self.old.lists self.new.lists }

@@ -110,7 +110,7 @@ impl Retry {
         self.waiting.is_empty() || !self.readings.is_any_marked(written)
     }
 
-    /// A transaction waits behind the others, for a change of something that it read.
+    /// A transaction waits after the others, for a change of something that it read.
     ///
     /// # Errors
     ///

@@ -132,7 +132,7 @@ fn take_out(
     }
 }
 
-// The same, where there is room for all: each is taken off the front, and who stays comes behind the others.
+// The same, where there is room for all: each is taken off the front, and who stays comes after the others.
 fn turn_over(
     waiting: &mut SharedList<Waiting>,
     readings: &SharedReadings,

@@ -35,7 +35,7 @@ alone s change (fates.Delayed until) h = h.0
 alone s change (fates.Linked key discipline) h = h
 alone s change (fates.Destroyed count) h = h
 
-made : (t : Listing) (s : Machine) (m : Move) → IsDecided t s m → IsMade s m
+pub made : (t : Listing) (s : Machine) (m : Move) → IsDecided t s m → IsMade s m
 made t s (moves.Start count arrivals) h = tt
 made t s moves.Command h = tt
 made t s moves.Reset h = tt

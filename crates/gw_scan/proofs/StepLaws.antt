@@ -19,7 +19,7 @@ use Rattle.gw_scan.specs.declared.steps.Turn.{Turn}
 use Rattle.gw_asking.proofs.Binding.{reads_keep}
 use Rattle.gw_meaning.proofs.Programs.{bind_gives, bind_ends}
 
--- what comes next is the step of the definition, with these streams behind its draws, or its end; a refused growth leaves
+-- what comes next is the step of the definition, with these streams after its draws, or its end; a refused growth leaves
 -- it open
 abbrev pub Foretells : Listing → ℕ → Machine → List Stream → Result Move Halt → Type 0
 Foretells t seed s streams (Ok m) = step t seed s ≡ Ok (decided s m streams)

@@ -9,4 +9,5 @@ pub use Rattle.gw_asking.specs.Noted
 pub use Rattle.gw_asking.specs.Deciding
 pub use Rattle.gw_state.specs.Parts
 pub use Rattle.gw_state.specs.Making
+pub mod Courses
 pub mod Stepping

@@ -29,7 +29,7 @@ abbrev pub Follows : Turn → List Item → Noted → Noted → Type 0
 Follows turns.Moved items old new = Reads old items new
 Follows (turns.Ended end) items old new = Forgets old.step old.streams old new
 
--- the move to which an evaluation comes is made, with the streams behind its draws; where it comes to none, nothing
+-- the move to which an evaluation comes is made, with the streams after its draws; where it comes to none, nothing
 -- changes
 abbrev pub Acts : Listing → ℕ → Eval Move → Result (Unit {0}) Halt → Machine → Machine → Noted → Noted → Type 0
 Acts t seed p (Ok u) before after old new =

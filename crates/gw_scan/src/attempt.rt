@@ -1,14 +1,19 @@
-// The active transaction tries a block: it meets the one that it goes to, and what its verb decides comes of it.
-ghost use Rattle.std.specs.Prelude.{Some};
-ghost use Rattle.gw_meaning.specs.Step.{attempt_prog, meet_prog};
+// The active transaction tries a block: it meets the one that it goes to, and what its verb decides is handed on at
+// once, so that it is taken where it is known which kind of move it is.
+ghost use Rattle.std.specs.Prelude.{◌≡◌, ◌<◌};
+ghost use Rattle.gw_meaning.specs.Step.{buffer_prog, mark_prog, scan_prog};
+ghost use Rattle.gw_asking.specs.Noted.{Noted};
 ghost use Rattle.gw_asking.specs.Deciding.{Decides};
+ghost use Rattle.gw_scan.specs.Courses.{Goes, IsNext, met_by};
 
+use crate::course::Course;
+use crate::hand_on::hand_on;
+use crate::scanning::decide_scan;
 use gw_asking::{Case, Notes, ask_block, ask_next};
 use gw_expr::{Halt, Stop};
 use gw_meaning::operands::{A, B, C, D, E};
-use gw_meaning::{Block, Move, StatementId, Transaction};
+use gw_meaning::{Block, Move, StatementId};
 use gw_names::BlockVerb;
-use gw_state::State;
 use gw_values::{Context, for_one};
 use gw_verbs::{
     decide_advance, decide_assign, decide_buffer, decide_depart, decide_enter, decide_gate,
@@ -17,37 +22,51 @@ use gw_verbs::{
     decide_tabulate, decide_terminate, decide_test, decide_transfer, decide_unlink,
 };
 
-// The active transaction tries the block that it goes to, or else the one after its own.
-pub fn decide_attempt(
-    state: &State,
-    case: Case,
-    notes: &mut Notes,
-    x: &Transaction,
-) -> Result<Move, Halt>
-    ensures { Decides case.entry.version.now case.entry.seed (attempt_prog state.now x.now x.now.destination)
-        result notes.old notes.new }
+// The active transaction tries the block that it goes to, or else the one after its own; where none is active, the
+// scan goes on.
+pub fn attempt<R: Course>(course: &mut R, case: Case, notes: &mut Notes) -> Result<(), Halt>
+    requires { 0 < (R.machine course.old).remaining }
+    ensures { Goes R.makes case.entry.version.now case.entry.seed
+        (scan_prog (R.machine course.old) (R.machine course.old).active)
+        result course.old course.new notes.old notes.new }
 {
+    let Some(x) = course.state().active() else {
+        return hand_on(
+            decide_scan(course.state(), case, notes),
+            course,
+            case,
+            notes,
+        );
+    };
     let Some(id) = ask_next(case.version, notes, x)? else {
         return Err(Halt::stop(Stop::NoNextBlock));
     };
     match ask_block(case.version, notes, id)? {
-        Some(block) => decide_block(state, case, notes, x, id, block),
+        Some(block) => meet(course, case, notes, id, block),
         None => Err(Halt::stop(Stop::NoNextBlock)),
     }
 }
 
 // It meets a block.
-fn decide_block(
-    state: &State,
+fn meet<R: Course>(
+    course: &mut R,
     case: Case,
     notes: &mut Notes,
-    x: &Transaction,
     id: StatementId,
     block: &Block,
-) -> Result<Move, Halt>
-    ensures { Decides case.entry.version.now case.entry.seed (meet_prog state.now x.now id (Some block.now))
-        result notes.old notes.new }
+) -> Result<(), Halt>
+    ghost before: { Noted }
+    requires next { IsNext case.version.now case.seed (R.machine course.old)
+        (met_by (R.machine course.old) (R.machine course.old).active id block.now) }
+    requires before { notes.old ≡ before }
+    ensures { Goes R.makes case.entry.version.now case.entry.seed
+        (met_by (R.machine course.old) (R.machine course.old).active id block.now)
+        result course.old course.new before notes.new }
 {
+    let state = course.state();
+    let Some(x) = state.active() else {
+        return Err(Halt::stop(Stop::NoNextBlock));
+    };
     let asker = &for_one(state, x);
     let context = Context { state, asker, case };
     let a = block.operand(A);
@@ -56,30 +75,142 @@ fn decide_block(
     let beside = block.auxiliary;
     match block.verb {
         BlockVerb::Generate => {
-            let limit = block.operand(D);
-            decide_generate(context, notes, x, id, a, b, limit, block.operand(E))
+            let to = decide_generate(
+                context,
+                notes,
+                x,
+                id,
+                a,
+                b,
+                block.operand(D),
+                block.operand(E),
+            );
+            hand_on_met(to, course, case, notes, id, block)
         }
-        BlockVerb::Advance => decide_advance(context, notes, id, a, b),
-        BlockVerb::Terminate => decide_terminate(context, notes, id, a),
-        BlockVerb::Queue => decide_queue(context, notes, id, a, b),
-        BlockVerb::Depart => decide_depart(context, notes, x, id, a, b),
-        BlockVerb::Seize => decide_seize(context, notes, id, a),
-        BlockVerb::Release => decide_release(context, notes, x, id, a),
-        BlockVerb::Enter => decide_enter(context, notes, id, a, b),
-        BlockVerb::Leave => decide_leave(context, notes, id, a, b),
-        BlockVerb::Transfer => decide_transfer(case, notes, id, a, b, c),
-        BlockVerb::Test => decide_test(context, notes, id, beside, a, b, c),
-        BlockVerb::Gate => decide_gate(context, notes, id, beside, a, b),
-        BlockVerb::Logic => decide_logic(context, notes, id, beside, a),
-        BlockVerb::Savevalue => decide_savevalue(context, notes, id, beside, a, b),
-        BlockVerb::Tabulate => decide_tabulate(context, notes, id, a),
-        BlockVerb::Split => decide_split(context, notes, id, a, b),
-        BlockVerb::Link => decide_link(context, notes, id, a, b),
-        BlockVerb::Unlink => decide_unlink(context, notes, id, a, b, c),
-        BlockVerb::Mark => decide_mark(id),
-        BlockVerb::Priority => decide_priority(context, notes, id, a),
-        BlockVerb::Buffer => decide_buffer(id),
-        BlockVerb::Assign => decide_assign(context, notes, id, beside, a, b),
-        BlockVerb::Loop => decide_loop(context, notes, id, a, b),
+        BlockVerb::Advance => {
+            let to = decide_advance(context, notes, id, a, b);
+            hand_on_met(to, course, case, notes, id, block)
+        }
+        BlockVerb::Terminate => {
+            let to = decide_terminate(context, notes, id, a);
+            hand_on_met(to, course, case, notes, id, block)
+        }
+        BlockVerb::Queue => {
+            let to = decide_queue(context, notes, id, a, b);
+            hand_on_met(to, course, case, notes, id, block)
+        }
+        BlockVerb::Depart => {
+            let to = decide_depart(context, notes, x, id, a, b);
+            hand_on_met(to, course, case, notes, id, block)
+        }
+        BlockVerb::Seize => {
+            let to = decide_seize(context, notes, id, a);
+            hand_on_met(to, course, case, notes, id, block)
+        }
+        BlockVerb::Release => {
+            let to = decide_release(context, notes, x, id, a);
+            hand_on_met(to, course, case, notes, id, block)
+        }
+        BlockVerb::Enter => {
+            let to = decide_enter(context, notes, id, a, b);
+            hand_on_met(to, course, case, notes, id, block)
+        }
+        BlockVerb::Leave => {
+            let to = decide_leave(context, notes, id, a, b);
+            hand_on_met(to, course, case, notes, id, block)
+        }
+        BlockVerb::Transfer => {
+            let to = decide_transfer(case, notes, id, a, b, c);
+            hand_on_met(to, course, case, notes, id, block)
+        }
+        BlockVerb::Test => {
+            let to = decide_test(context, notes, id, beside, a, b, c);
+            hand_on_met(to, course, case, notes, id, block)
+        }
+        BlockVerb::Gate => {
+            let to = decide_gate(context, notes, id, beside, a, b);
+            hand_on_met(to, course, case, notes, id, block)
+        }
+        BlockVerb::Logic => {
+            let to = decide_logic(context, notes, id, beside, a);
+            hand_on_met(to, course, case, notes, id, block)
+        }
+        BlockVerb::Savevalue => {
+            let to = decide_savevalue(context, notes, id, beside, a, b);
+            hand_on_met(to, course, case, notes, id, block)
+        }
+        BlockVerb::Tabulate => {
+            let to = decide_tabulate(context, notes, id, a);
+            hand_on_met(to, course, case, notes, id, block)
+        }
+        BlockVerb::Split => {
+            let to = decide_split(context, notes, id, a, b);
+            hand_on_met(to, course, case, notes, id, block)
+        }
+        BlockVerb::Link => {
+            let to = decide_link(context, notes, id, a, b);
+            hand_on_met(to, course, case, notes, id, block)
+        }
+        BlockVerb::Unlink => {
+            let to = decide_unlink(context, notes, id, a, b, c);
+            hand_on_met(to, course, case, notes, id, block)
+        }
+        BlockVerb::Mark => {
+            let to = mark(case, notes, id);
+            hand_on_met(to, course, case, notes, id, block)
+        }
+        BlockVerb::Priority => {
+            let to = decide_priority(context, notes, id, a);
+            hand_on_met(to, course, case, notes, id, block)
+        }
+        BlockVerb::Buffer => {
+            let to = buffer(case, notes, id);
+            hand_on_met(to, course, case, notes, id, block)
+        }
+        BlockVerb::Assign => {
+            let to = decide_assign(context, notes, id, beside, a, b);
+            hand_on_met(to, course, case, notes, id, block)
+        }
+        BlockVerb::Loop => {
+            let to = decide_loop(context, notes, id, a, b);
+            hand_on_met(to, course, case, notes, id, block)
+        }
     }
+}
+
+// A MARK and a BUFFER neither ask nor draw.
+#[inline(always)]
+fn mark(case: Case, notes: &Notes, id: StatementId) -> Result<Move, Halt>
+    ensures { Decides case.entry.version.now case.entry.seed (mark_prog id) result notes.now notes.now }
+{
+    decide_mark(id)
+}
+
+#[inline(always)]
+fn buffer(case: Case, notes: &Notes, id: StatementId) -> Result<Move, Halt>
+    ensures { Decides case.entry.version.now case.entry.seed (buffer_prog id) result notes.now notes.now }
+{
+    decide_buffer(id)
+}
+
+// What its verb decided is handed on.
+#[inline(always)]
+fn hand_on_met<R: Course>(
+    decided: Result<Move, Halt>,
+    course: &mut R,
+    case: Case,
+    notes: &Notes,
+    id: StatementId,
+    block: &Block,
+) -> Result<(), Halt>
+    ghost before: { Noted }
+    requires next { IsNext case.version.now case.seed (R.machine course.old)
+        (met_by (R.machine course.old) (R.machine course.old).active id block.now) }
+    requires met { Decides case.version.now case.seed
+        (met_by (R.machine course.old) (R.machine course.old).active id block.now) decided before notes.now }
+    ensures { Goes R.makes case.entry.version.now case.entry.seed
+        (met_by (R.machine course.old) (R.machine course.old).active id block.now)
+        result course.old course.new before notes.now }
+{
+    hand_on(decided, course, case, notes)
 }

@@ -10,6 +10,8 @@ use gw_state::State;
 use gw_values::{Context, arrivals, for_none};
 
 // No START is under way: the next command.
+#[cold]
+#[inline(never)]
 pub fn decide_command(state: &State, case: Case, notes: &mut Notes) -> Result<Move, Halt>
     ensures { Decides case.entry.version.now case.entry.seed (move_prog state.now 0) result notes.old notes.new }
 {

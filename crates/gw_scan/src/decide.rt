@@ -1,26 +1,29 @@
 // Which move a step is: the next command's, or what comes of the block that the active transaction tries; where none is
-// active, the scan's. Nothing changes but the notes.
+// active, the scan's. The course takes it.
 ghost use Rattle.gw_meaning.specs.Step.{move_prog};
-ghost use Rattle.gw_asking.specs.Deciding.{Decides};
+ghost use Rattle.gw_scan.specs.Courses.{Goes};
 
-use crate::attempt::decide_attempt;
+use crate::attempt::attempt;
 use crate::commands::decide_command;
-use crate::scanning::decide_scan;
+use crate::course::Course;
+use crate::hand_on::hand_on;
 use gw_asking::{Case, Notes};
 use gw_expr::Halt;
-use gw_meaning::Move;
-use gw_state::State;
 
-// The next move; or why none follows.
-pub fn decide(state: &State, case: Case, notes: &mut Notes) -> Result<Move, Halt>
-    ensures { Decides case.entry.version.now case.entry.seed (move_prog state.now state.now.remaining)
-        result notes.old notes.new }
+// The next move is taken; or it is told why none follows.
+#[inline(always)]
+pub fn go_on<C: Course>(course: &mut C, case: Case, notes: &mut Notes) -> Result<(), Halt>
+    ensures { Goes C.makes case.entry.version.now case.entry.seed
+        (move_prog (C.machine course.old) (C.machine course.old).remaining)
+        result course.old course.new notes.old notes.new }
 {
-    if state.remaining() == 0 {
-        return decide_command(state, case, notes);
+    if course.state().remaining() == 0 {
+        return hand_on(
+            decide_command(course.state(), case, notes),
+            course,
+            case,
+            notes,
+        );
     }
-    match state.active() {
-        Some(x) => decide_attempt(state, case, notes, x),
-        None => decide_scan(state, case, notes),
-    }
+    attempt(course, case, notes)
 }

@@ -6,7 +6,9 @@
 
 mod attempt;
 mod commands;
+mod course;
 mod decide;
+mod hand_on;
 mod scanning;
 mod steps;
 mod tally;

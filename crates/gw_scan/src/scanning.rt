@@ -8,6 +8,7 @@ use gw_meaning::Move;
 use gw_state::State;
 
 // The first of the current chain, or else the clock.
+#[inline(always)]
 pub fn decide_scan(state: &State, case: Case, notes: &mut Notes) -> Result<Move, Halt>
     ensures { Decides case.entry.version.now case.entry.seed (pick_prog state.now state.now.current)
         result notes.old notes.new }
@@ -19,6 +20,7 @@ pub fn decide_scan(state: &State, case: Case, notes: &mut Notes) -> Result<Move,
 }
 
 // The clock moves on to the least time of the future chain, where that lies within the horizon.
+#[inline(always)]
 fn decide_clock(state: &State, case: Case, notes: &mut Notes) -> Result<Move, Halt>
     ensures { Decides case.entry.version.now case.entry.seed (clock_prog (least_time state.now.future))
         result notes.old notes.new }

@@ -4,7 +4,8 @@ ghost use Rattle.gw_meaning.specs.Step.{move_prog, step, step_items};
 ghost use Rattle.gw_scan.specs.Stepping.{Acts, Steps, Counts, EndsAs, Follows, Halts};
 ghost use Rattle.gw_asking.specs.Noted.{Forgets};
 
-use crate::decide::decide;
+use crate::course::Asked;
+use crate::decide::go_on;
 use crate::tally::Tally;
 use gw_asking::{Case, Notes};
 use gw_expr::{End, Halt};
@@ -55,6 +56,8 @@ pub fn step(
 }
 
 // No step was made: what it read is forgotten.
+#[cold]
+#[inline(never)]
 fn halted(halt: Halt, state: &State, notes: &mut Notes) -> Result<Turn, AllocError>
     ensures told { Halts halt result }
     ensures notes { Forgets notes.old.step state.now.streams notes.old notes.new }
@@ -67,13 +70,12 @@ fn halted(halt: Halt, state: &State, notes: &mut Notes) -> Result<Turn, AllocErr
 }
 
 // Makes the next move; or says why none follows, and then nothing changes.
+#[inline(always)]
 fn act(state: &mut State, case: Case, notes: &mut Notes) -> Result<(), Halt>
     ensures { Acts case.entry.version.now case.entry.seed (move_prog state.old state.old.remaining)
         result state.old state.new notes.old notes.new }
 {
-    let to = decide(state, case, notes)?;
-    state.make(case.alloc, to, notes.streams())?;
-    Ok(())
+    go_on(state, case, notes)
 }
 
 /// The end that a step would come to here, or `None` where the run goes on: no move is made.
@@ -91,13 +93,11 @@ pub fn end_at(
         seed,
     };
     let mut notes = Notes::new(alloc, state.streams());
-    let decided = decide(state, case, &mut notes);
+    let mut asked = Asked { state };
+    let decided = go_on(&mut asked, case, &mut notes);
     drop(notes);
     match decided {
-        Ok(to) => {
-            drop(to);
-            Ok(None)
-        }
+        Ok(()) => Ok(None),
         Err(Halt::End(end)) => Ok(Some(end)),
         Err(Halt::Memory) => Err(AllocError),
     }

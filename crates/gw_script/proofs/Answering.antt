@@ -1,5 +1,5 @@
 -- One line, answered: something may be answered to any line, and an answer that broke off is the front of one.
-use Rattle.std.proofs.Common.{◌≡◌, inr, ℕ, ◌<◌, List, [], ◌++◌, Option, Some, refl, sym, subst, ◌∙◌, ap, Result, Ok, Err, IfErr, OnErr, arith}
+use Rattle.std.proofs.Common.{◌≡◌, inr, ℕ, ◌<◌, List, [], ◌++◌, Option, Some, None, true, refl, sym, subst, ◌∙◌, ap, Result, Ok, Err, IfErr, OnErr, arith}
 use Rattle.std.specs.Prelude.{codes}
 use Rattle.std.proofs.lemmas.Fmt.{decimal_digit}
 use Rattle.gw_meaning.specs.Listing.{Listing}
@@ -9,7 +9,7 @@ use Rattle.gw_desk.specs.declared.answer.Answer.TheVariants as answers
 use Rattle.gw_desk.specs.declared.play.Event.{Event}
 use Rattle.gw_desk.specs.declared.play.Event.TheVariants as events
 use Rattle.gw_desk.specs.declared.play.Reply.{Reply}
-use Rattle.gw_desk.specs.Keeping.{wants_memory}
+use Rattle.gw_desk.specs.Keeping.{is_of_desk, wants_memory}
 use Rattle.gw_request.specs.declared.request.Request.{Request}
 use Rattle.gw_request.specs.declared.request.Request.TheVariants as requests
 use Rattle.gw_script.specs.declared.fault.Fault.{Fault}
@@ -29,18 +29,21 @@ pub reports_all_none : {D : Type 0} (version : D → Listing) (does : D → Even
 reports_all_none version does d k = refused [] (numbers_of (version d).replications) [] refl (refl, refl) refl
 
 -- something may be replied to any request, and leave the keeper as it is
-replies_some : {D : Type 0} (version : D → Listing) (does : D → Event → Reply → D → Type 0)
-    (in_vain : (d : D) (event : Event) → does d event (wants_memory event) d) (d : D) (n : ℕ) (request : Request) → (front : List ℕ) ×
-    Replies version does d n request front d
-replies_some version does in_vain d n requests.Nothing = (_, (refl, refl))
-replies_some version does in_vain d n (requests.Edit e) = (_, refuses refusals.Memory (in_vain d (events.Edit e)) refl)
-replies_some version does in_vain d n (requests.Report rep k) =
-    (_, record { answer = answers.Memory; answers_so = in_vain d (events.Finish rep k); told = refl })
-replies_some version does in_vain d n (requests.Peek rep k) = (_, record { answer = answers.Memory; answers_so = in_vain d (events.Peek rep k); told = refl })
-replies_some version does in_vain d n (requests.All k) = (_, reports_all_none version does d k)
-replies_some version does in_vain d n requests.List = (_, (inr refl, refl))
-replies_some version does in_vain d n requests.Quit = (_, (refl, refl))
-replies_some version does in_vain d n (requests.Bad reason) = (_, (refl, refl))
+replies_some : {D : Type 0} (version : D → Listing) (does : D → Event → Reply → D → Type 0) (works : D → ℕ → ℕ → Option (Option ℕ) → D → Type 0)
+    (in_vain : (d : D) (event : Event) → is_of_desk event ≡ true → does d event (wants_memory event) d)
+    (worked_in_vain : (d : D) (rep steps : ℕ) → works d rep steps None d) (d : D) (n : ℕ) (request : Request) → (front : List ℕ) ×
+    Replies version does works d n request front d
+replies_some version does works in_vain worked_in_vain d n requests.Nothing = (_, (refl, refl))
+replies_some version does works in_vain worked_in_vain d n (requests.Edit e) = (_, refuses refusals.Memory (in_vain d (events.Edit e) refl) refl)
+replies_some version does works in_vain worked_in_vain d n (requests.Report rep k) =
+    (_, record { answer = answers.Memory; answers_so = in_vain d (events.Finish rep k) refl; told = refl })
+replies_some version does works in_vain worked_in_vain d n (requests.Peek rep k) = (_, record { answer = answers.Memory; answers_so = in_vain d (events.Peek rep k) refl; told = refl })
+replies_some version does works in_vain worked_in_vain d n (requests.All k) = (_, reports_all_none version does d k)
+replies_some version does works in_vain worked_in_vain d n (requests.Work rep steps) =
+    (_, record { answer = None; works_so = worked_in_vain d rep steps; told = refl })
+replies_some version does works in_vain worked_in_vain d n requests.List = (_, (inr refl, refl))
+replies_some version does works in_vain worked_in_vain d n requests.Quit = (_, (refl, refl))
+replies_some version does works in_vain worked_in_vain d n (requests.Bad reason) = (_, (refl, refl))
 
 -- a fact of the fault that a result is
 pub if_err_at : {A : Type 0} (r : Result A Fault) (P : Fault → Type 0) (e f : Fault) → r ≡ Err e → e ≡ f → P f → IfErr r P
@@ -68,21 +71,24 @@ broken_sending wrote writes_of A untold before old new text after fault is part 
     }
 
 -- what was answered where a growth was refused is an answer
-pub untold_replies : {D : Type 0} (version : D → Listing) (does : D → Event → Reply → D → Type 0) (d after : D) (n : ℕ) (request : Request) (text : List ℕ) →
-    untold_of request ≡ Some text → Untold version does d n request after → Replies version does d n request text after
-untold_replies version does d after n request text is untold = rw is at untold
+pub untold_replies : {D : Type 0} (version : D → Listing) (does : D → Event → Reply → D → Type 0)
+    (works : D → ℕ → ℕ → Option (Option ℕ) → D → Type 0) (d after : D) (n : ℕ) (request : Request) (text : List ℕ) →
+    untold_of request ≡ Some text → Untold version does works d n request after → Replies version does works d n request text after
+untold_replies version does works d after n request text is untold = rw is at untold
 
 -- an answer broke off where a growth was refused for telling it
 pub broken_refused : {D K : Type 0} (wrote : K → List ℕ → K → Type 0) (writes_of : K → ℕ) (wrote_none : (a : K) → wrote a [] a) (version : D → Listing)
-    (does : D → Event → Reply → D → Type 0) (in_vain : (d : D) (event : Event) → does d event (wants_memory event) d) (d after : D) (n : ℕ) (request : Request)
-    (old new : K) (fault : Fault) → Untold version does d n request after → BreaksRefused wrote writes_of (untold_of request) old new fault →
-    BreaksOff wrote writes_of (Replies version does d n request) (untold_of request) d old new after fault
-broken_refused {D} {K} wrote writes_of wrote_none version does in_vain d after n request old new fault untold (not_begun other memory same) =
+    (does : D → Event → Reply → D → Type 0) (works : D → ℕ → ℕ → Option (Option ℕ) → D → Type 0)
+    (in_vain : (d : D) (event : Event) → is_of_desk event ≡ true → does d event (wants_memory event) d)
+    (worked_in_vain : (d : D) (rep steps : ℕ) → works d rep steps None d) (d after : D) (n : ℕ) (request : Request)
+    (old new : K) (fault : Fault) → Untold version does works d n request after → BreaksRefused wrote writes_of (untold_of request) old new fault →
+    BreaksOff wrote writes_of (Replies version does works d n request) (untold_of request) d old new after fault
+broken_refused {D} {K} wrote writes_of wrote_none version does works in_vain worked_in_vain d after n request old new fault untold (not_begun other memory same) =
     let W : K → Type 0 = λ k. wrote old [] k in
     let C : Fault → Type 0 = λ f. BreaksBy f (writes_of old) (writes_of new) in
     let still : after ≡ d = rw other at untold in
-    let some = replies_some version does in_vain d n request in
-    let R : D → Type 0 = λ x. Replies version does d n request some.0 x in
+    let some = replies_some version does works in_vain worked_in_vain d n request in
+    let R : D → Type 0 = λ x. Replies version does works d n request some.0 x in
     record {
       front = [];
       left = some.0;
@@ -91,12 +97,12 @@ broken_refused {D} {K} wrote writes_of wrote_none version does in_vain d after n
       cause = subst C (sym memory) (ap writes_of same);
       silent = λ again. record { unanswered = other; unwritten = refl; unchanged = still };
     }
-broken_refused {D} {K} wrote writes_of wrote_none version does in_vain d after n request old new fault untold (begun front left asks written failed counted) =
+broken_refused {D} {K} wrote writes_of wrote_none version does works in_vain worked_in_vain d after n request old new fault untold (begun front left asks written failed counted) =
     let C : Fault → Type 0 = λ f. BreaksBy f (writes_of old) (writes_of new) in
     record {
       front = front;
       left = left;
-      answers = untold_replies version does d after n request (front ++ left) asks untold;
+      answers = untold_replies version does works d after n request (front ++ left) asks untold;
       written = written;
       cause = subst C (sym failed) counted;
       silent = λ memory. absurd (write_is_not_memory fault failed memory);

@@ -42,23 +42,22 @@ capacity_goes_on : (o : Option (List ℕ × List ℕ)) → is_quit
 capacity_goes_on None = refl
 capacity_goes_on (Some p) = amount_goes_on p.0 (number_of p.1)
 
-with_goes_on : (o : Option Command) (words : Option (List ℕ)) → IsTrue (copies o) → is_quit (request_with o words) ≡ false
+with_goes_on : (o : Option Command) (words : Option (List ℕ)) → IsTrue (copies o words) → is_quit (request_with o words) ≡ false
 with_goes_on None words h = absurd cc
-with_goes_on (Some (commands.Bare bares.List)) words h = absurd cc
-with_goes_on (Some (commands.Bare bares.Quit)) words h = absurd cc
-with_goes_on (Some (commands.Single singles.Delete)) words h = absurd cc
-with_goes_on (Some (commands.Single singles.Drop)) words h = absurd cc
-with_goes_on (Some (commands.Single singles.Horizon)) words h = absurd cc
-with_goes_on (Some (commands.Single singles.All)) words h = absurd cc
-with_goes_on (Some (commands.Pair pairs.Seed)) words h = absurd cc
-with_goes_on (Some (commands.Pair pairs.Replicate)) words h = absurd cc
-with_goes_on (Some (commands.Pair pairs.Report)) words h = absurd cc
-with_goes_on (Some (commands.Pair pairs.Peek)) words h = absurd cc
-with_goes_on (Some (commands.Text texts.Insert)) None h = refl
+with_goes_on (Some c) None h = absurd cc
+with_goes_on (Some (commands.Bare bares.List)) (Some words) h = absurd cc
+with_goes_on (Some (commands.Bare bares.Quit)) (Some words) h = absurd cc
+with_goes_on (Some (commands.Single singles.Delete)) (Some words) h = absurd cc
+with_goes_on (Some (commands.Single singles.Drop)) (Some words) h = absurd cc
+with_goes_on (Some (commands.Single singles.Horizon)) (Some words) h = absurd cc
+with_goes_on (Some (commands.Single singles.All)) (Some words) h = absurd cc
+with_goes_on (Some (commands.Pair pairs.Seed)) (Some words) h = absurd cc
+with_goes_on (Some (commands.Pair pairs.Replicate)) (Some words) h = absurd cc
+with_goes_on (Some (commands.Pair pairs.Report)) (Some words) h = absurd cc
+with_goes_on (Some (commands.Pair pairs.Peek)) (Some words) h = absurd cc
+with_goes_on (Some (commands.Pair pairs.Work)) (Some words) h = absurd cc
 with_goes_on (Some (commands.Text texts.Insert)) (Some words) h = text_goes_on (λ n text. edits.Insert n text) (next_number words)
-with_goes_on (Some (commands.Text texts.Change)) None h = refl
 with_goes_on (Some (commands.Text texts.Change)) (Some words) h = text_goes_on (λ n text. edits.Change n text) (next_number words)
-with_goes_on (Some commands.Capacity) None h = refl
 with_goes_on (Some commands.Capacity) (Some words) h = capacity_goes_on (cut words)
 
 both : (a b : Bool) → IsTrue (a && b) → IsTrue b
@@ -74,4 +73,4 @@ tests_go_on false false r h = h
 pub unread_goes_on : (line : List ℕ) → IsTrue (may_want_memory line) → is_quit (request_of line) ≡ false
 unfolding request_of
 unread_goes_on line h = tests_go_on (nat_lt 65536 (length line)) (list_all is_blank line) (request_with (command_of (first_word line).0) (first_word line).1)
-    (with_goes_on (command_of (first_word line).0) (first_word line).1 (both (nat_le (length line) 65536) (copies (command_of (first_word line).0)) h))
+    (with_goes_on (command_of (first_word line).0) (first_word line).1 (both (nat_le (length line) 65536) (copies (command_of (first_word line).0) (first_word line).1) h))

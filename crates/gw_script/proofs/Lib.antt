@@ -4,6 +4,7 @@ pub mod Reporting
 pub mod Turning
 pub mod Refusing
 pub mod Opened
+pub mod WorkLaws
 pub mod Rightly
 pub mod Playing
 pub mod Showing

@@ -1,4 +1,4 @@
--- Reports of several replications, one behind the other.
+-- Reports of several replications, one after the other.
 use Rattle.std.proofs.Common.{◌≡◌, ℕ, suc, List, length, [], ◌∷◌, ◌++◌, refl, ap, sym, subst, ◌∙◌, append_assoc, append-nil, Result, Ok, Err, OnErr}
 use Rattle.std.specs.Prelude.{codes, decimal}
 use Rattle.gw_meaning.specs.declared.statement.Replication.{Replication}

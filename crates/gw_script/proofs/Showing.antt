@@ -1,4 +1,4 @@
--- `list` shows behind their places the lines that the headline reads.
+-- `list` shows after their places the lines that the headline reads.
 use Rattle.std.proofs.Common.{◌≡◌, ℕ, suc, ◌+◌, List, [], ◌∷◌, ◌++◌, length, ap, refl}
 use Rattle.std.specs.Prelude.{codes, decimal}
 use Rattle.gw_meaning.specs.declared.statement.Numbered.{Numbered}

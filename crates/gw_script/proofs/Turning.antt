@@ -32,11 +32,11 @@ pub turned_none : {D S K : Type 0} (answers : D → ℕ → List ℕ → List �
 turned_none answers took wrote b source sink x y =
     record { input = []; output = []; taken = x; written = y; onward = λ rest out over final says. says; fed = inl refl; spent = refl; few = omega arith }
 
--- whole lines behind others
+-- whole lines after others
 fed_behind : (front lines : List ℕ) → AreFed lines → AreFed (front ++ lines)
 fed_behind front lines h = (front ++ h.0, ap (λ l. front ++ l) h.1 ∙ sym (append_assoc front h.0 (10 ∷ [])))
 
--- a line that was read whole, behind others
+-- a line that was read whole, after others
 whole_behind : (front lines : List ℕ) (ended : Type 0) (idle : ℕ) → IsReadWhole ended lines idle → IsReadWhole ended (front ++ lines) idle
 whole_behind front lines ended idle (with_its_line_feed fed none) = with_its_line_feed (fed_behind front lines fed) none
 whole_behind front lines ended idle (at_the_end end one) = at_the_end end one
@@ -82,7 +82,7 @@ read_cause reads.Limit n m o writes writes' left idle taken same written total c
     (counted ∙ same, written, omega (arith, total, calls, spent))
 read_cause reads.Memory n m o writes writes' left idle taken same written total calls counted spent = (counted ∙ same, written, omega (arith, total))
 
--- what is said to a whole line with nothing behind it
+-- what is said to a whole line with nothing after it
 pub says_whole : {D : Type 0} (answers : D → ℕ → List ℕ → List ℕ → D → Type 0) (d d' : D) (n : ℕ) (text front : List ℕ) → IsUnended text →
     answers d n (without_cr_of text) front d' → (over : Over) × Says answers d n (text ++ 10 ∷ []) front over d'
 says_whole answers d d' n text front unended told = go (is_quit (request_of (without_cr_of text))) refl where
@@ -183,7 +183,7 @@ module _ {D S K : Type 0} (answers : D → ℕ → List ℕ → List ℕ → D �
           place = in_reading fault refl before.fed broken.part refl refl;
           cause = read_cause fault (reads_of source) (reads_of s) (reads_of s') (writes_of sink) (writes_of k) left' broken.idle
               (length (before.input ++ broken.bytes)) same written total broken.idle_calls broken.counted broken.limit;
-          silent = λ memory. inl refl;
+          silent = λ memory. inl (record { fed = before.fed; written = refl; goes_on = refl });
         }
 
     -- answering a line that was read whole broke off
@@ -218,7 +218,7 @@ module _ {D S K : Type 0} (answers : D → ℕ → List ℕ → List ℕ → D �
           silent = λ memory. inr (unanswered_at before bytes text last_line broken.front (broken.silent memory));
         }
 
--- the end of the input was found by one call, however the session ends behind it
+-- the end of the input was found by one call, however the session ends after it
 pub ended_if : (q : Bool) (ended : Type 0) (input : List ℕ) → ended → IsOverAt ended input (over_if q) 1
 ended_if true ended input end = at_the_end end refl
 ended_if false ended input end = (end, refl)

@@ -10,7 +10,7 @@ use Rattle.gw_desk.specs.declared.play.Event.TheVariants as events
 use Rattle.gw_desk.specs.declared.play.Reply.{Reply}
 use Rattle.gw_desk.specs.declared.play.Reply.TheVariants as replies
 
--- a report behind its heading line: the accepted edits, the replication, the START and the length
+-- a report after its heading line: the accepted edits, the replication, the START and the length
 unfoldable pub place_of : Report → List ℕ
 place_of r = codes "report " ++ decimal r.edits ++ codes " " ++ decimal r.replication ++ codes " " ++ decimal r.start
 
@@ -37,14 +37,14 @@ abbrev pub numbers_of : List Replication → List ℕ
 numbers_of [] = []
 numbers_of (r ∷ rs) = r.number ∷ numbers_of rs
 
--- the reports of START k of these replications, one behind the other
+-- the reports of START k of these replications, one after the other
 abbrev pub ReportEach : {D : Type 0} → (D → Event → Reply → D → Type 0) → ℕ → D → List ℕ → List ℕ → D → Type 0
 ReportEach does k d [] out d' = (out ≡ []) × (d' ≡ d)
 ReportEach {D} does k d (rep ∷ reps) out d' =
     (front : List ℕ) × (rest : List ℕ) × (next : D) × Queries does d (events.Finish rep k) front next ×
     ReportEach does k next reps rest d' × (out ≡ front ++ rest)
 
--- `all k`: how many replications there are, and the reports of all of them; or a growth was refused behind some of them
+-- `all k`: how many replications there are, and the reports of all of them; or a growth was refused after some of them
 pub data ReportsAll {D : Type 0} (version : D → Listing) (does : D → Event → Reply → D → Type 0) (d : D) (k : ℕ)
     (front : List ℕ) (d' : D) : Type 0 where
   whole : (out : List ℕ) → ReportEach does k d (numbers_of (version d).replications) out d' → front ≡ codes "all " ++
@@ -52,14 +52,14 @@ pub data ReportsAll {D : Type 0} (version : D → Listing) (does : D → Event �
   refused : (done left out : List ℕ) → numbers_of (version d).replications ≡ done ++ left →
       ReportEach does k d done out d' → front ≡ codes "memory\n" → ReportsAll version does d k front d'
 
--- a report of this replication was put behind a text
+-- a report of this replication was put after a text
 pub record PutsOne {D : Type 0} (does : D → Event → Reply → D → Type 0) (d : D) (rep k : ℕ) (old new : List ℕ)
     (d' : D) : Type 0 where
   pub front : List ℕ
   pub reports : Queries does d (events.Finish rep k) front d'
   pub put : new ≡ old ++ front
 
--- reports of these replications were put behind a text
+-- reports of these replications were put after a text
 pub record Puts {D : Type 0} (does : D → Event → Reply → D → Type 0) (d : D) (k : ℕ) (reps old new : List ℕ) (d' : D) :
     Type 0 where
   pub out : List ℕ

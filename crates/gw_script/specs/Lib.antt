@@ -1,6 +1,7 @@
 pub mod Opening
 pub mod Answers
 pub mod Changes
+pub mod Works
 pub mod Printing
 pub mod Replying
 pub mod Turns

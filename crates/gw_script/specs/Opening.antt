@@ -22,7 +22,7 @@ opened statements o = listed statements o.horizon (record { number = 1; seed = o
 
 -- a version on a desk, with nothing edited and nothing recorded
 abbrev pub book_of : Listing → ℕ → Book
-book_of t every = record { version = t; every = every; edits = []; runs = blank_runs every t.replications; made = 0 }
+book_of t every = record { opening = t; version = t; every = every; edits = []; runs = blank_runs every t.replications; made = 0 }
 
 -- the model's lines spell statements, and these make the version t, which has no fault
 pub record OpensVersion (model : List ℕ) (o : Options) (t : Listing) : Type 0 where

@@ -5,11 +5,11 @@ use Rattle.gw_meaning.specs.declared.statement.Numbered.{Numbered}
 use Rattle.gw_meaning.specs.Texts.{text_of}
 use Rattle.gw_lines.specs.Printed.{with_ends, listed_text}
 
--- a statement behind its place
+-- a statement after its place
 abbrev pub line_of : ℕ → Statement → List ℕ
 line_of place statement = decimal place ++ codes " " ++ text_of statement ++ codes "\n"
 
--- statements behind their places, the first of which stands at this one
+-- statements after their places, the first of which stands at this one
 abbrev pub lines_from : ℕ → List Numbered → List ℕ
 lines_from place [] = []
 lines_from place (line ∷ lines) = line_of place line.statement ++ lines_from (place + 1) lines
@@ -18,7 +18,7 @@ lines_from place (line ∷ lines) = line_of place line.statement ++ lines_from (
 abbrev pub list_answer : List Numbered → List ℕ
 list_answer lines = codes "list " ++ decimal (length lines) ++ codes "\n" ++ lines_from 1 lines
 
--- statements behind their places, the first of which stands at this one, and the same without, where `|` ends a line
+-- statements after their places, the first of which stands at this one, and the same without, where `|` ends a line
 pub data ArePlaced : ℕ → List Statement → List ℕ → List ℕ → Type 0 where
   none : (place : ℕ) → ArePlaced place [] [] []
   more : (place : ℕ) (s : Statement) (statements : List Statement) (placed plain : List ℕ) →
@@ -30,7 +30,7 @@ pub data ArePlaced : ℕ → List Statement → List ℕ → List ℕ → Type 0
 abbrev pub statements_in : List Numbered → List Statement
 statements_in lines = map (λ (line : Numbered). line.statement) lines
 
--- `list` shows how many statements there are, and each of them behind its place, and no statement id: the lines that
+-- `list` shows how many statements there are, and each of them after its place, and no statement id: the lines that
 -- the headline reads
 pub record Shows (lines : List Numbered) : Type 0 where
   pub placed : List ℕ

@@ -14,7 +14,7 @@ use Rattle.gw_script.specs.Turns.{stopped_by}
 
 -- To this input from line n on, this is written, so the session ends, and this it leaves of the keeper. Each line is
 -- answered as it may be over the keeper that the lines before it left. A carriage return before a line feed is dropped,
--- the last line may lack its line feed, and behind `quit` nothing more is read.
+-- the last line may lack its line feed, and after `quit` nothing more is read.
 pub data Says {D : Type 0} (answers : D → ℕ → List ℕ → List ℕ → D → Type 0) : D → ℕ → List ℕ → List ℕ → Over → D →
     Type 0 where
   nothing : (d : D) (n : ℕ) → Says answers d n [] [] overs.InputEnd d
@@ -28,12 +28,12 @@ pub data Says {D : Type 0} (answers : D → ℕ → List ℕ → List ℕ → D 
   last_quit : (d d' : D) (n : ℕ) (line front : List ℕ) → IsUnended line → is_quit (request_of line) ≡ true →
       answers d n line front d' → Says answers d n line front overs.Quit d'
 
--- whole lines, one at least, with a line feed behind the last
+-- whole lines, one at least, with a line feed after the last
 abbrev pub AreFed : List ℕ → Type 0
 AreFed lines = (front : List ℕ) × (lines ≡ front ++ 10 ∷ [])
 
--- the last line of an input was read whole, and so many calls of read gave no byte: a line feed stands behind it, and
--- no call came behind that; or the input ended behind it, as one call found
+-- the last line of an input was read whole, and so many calls of read gave no byte: a line feed stands after it, and
+-- no call came after that; or the input ended after it, as one call found
 pub data IsReadWhole (ended : Type 0) (input : List ℕ) (idle : ℕ) : Type 0 where
   with_its_line_feed : AreFed input → idle ≡ 0 → IsReadWhole ended input idle
   at_the_end : ended → idle ≡ 1 → IsReadWhole ended input idle
@@ -60,7 +60,7 @@ pub record Serves {D S K : Type 0} (answers : D → ℕ → List ℕ → List �
   pub read_well : reads source' ≡ reads source
   pub wrote_well : writes sink' ≡ writes sink
 
--- why a session may stop behind so many bytes, and what is counted then. The reader failed, or the writer: just that is
+-- why a session may stop after so many bytes, and what is counted then. The reader failed, or the writer: just that is
 -- counted, once; all calls of read were made, or a growth was refused: nothing is
 abbrev pub StopsBy : Fault → ℕ → ℕ → ℕ → ℕ → ℕ → Type 0
 StopsBy (faults.Line faulty) reads reads' writes writes' taken = ⊥
@@ -97,6 +97,13 @@ pub record IsUnanswered {D : Type 0} (answers : D → ℕ → List ℕ → List 
   pub untold : untold_of (request_of line) ≡ None
   pub says : Says answers d 1 earlier output overs.InputEnd d'
 
+-- all that is said to the whole lines was written, each line had its line feed, and none ended the session: it went on
+-- to read the next one
+pub record GoesOn (input left : List ℕ) (over : Over) : Type 0 where
+  pub fed : (input ≡ []) ⊎ AreFed input
+  pub written : left ≡ []
+  pub goes_on : over ≡ overs.InputEnd
+
 -- a session stopped: it read whole lines, `input`, and of the next one a part, `broken`, or nothing. What it wrote is
 -- the front of what is said to the whole lines, and it left the keeper as they leave it: a part of a line is never
 -- answered, and changes nothing. Out of memory stops it while it reads, or at a line that is neither a query nor an
@@ -115,4 +122,4 @@ pub record Stops {D S K : Type 0} (answers : D → ℕ → List ℕ → List ℕ
   pub says : Says answers d 1 input (output ++ left) over d'
   pub place : StopsAt (ended source') input broken left over fault
   pub cause : StopsBy fault (reads source) (reads source') (writes sink) (writes sink') (length (input ++ broken))
-  pub silent : fault ≡ faults.Memory → (left ≡ []) ⊎ IsUnanswered answers d input output d'
+  pub silent : fault ≡ faults.Memory → GoesOn input left over ⊎ IsUnanswered answers d input output d'

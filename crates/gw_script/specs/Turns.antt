@@ -54,7 +54,7 @@ pub data BreaksRefused {K : Type 0} (wrote : K → List ℕ → K → Type 0) (w
   begun : (front left : List ℕ) → untold ≡ Some (front ++ left) → wrote old front new → fault ≡ faults.Write →
       writes new ≡ one_more (writes old) → BreaksRefused wrote writes untold old new fault
 
--- how a session ends behind its last line
+-- how a session ends after its last line
 abbrev pub over_if : Bool → Over
 over_if true = overs.Quit
 over_if false = overs.InputEnd

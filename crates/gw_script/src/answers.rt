@@ -22,7 +22,7 @@ pub fn answer_bytes(alloc: Global, answer: &Answer) -> Result<Vec<u8>, AllocErro
     Ok(text)
 }
 
-/// Appends the bytes of an answer: a report behind its heading line, or one line.
+/// Appends the bytes of an answer: a report after its heading line, or one line.
 pub fn put_answer(text: &mut Vec<u8>, answer: &Answer) -> Result<(), AllocError>
     ensures { OnOk result (text.new.items ≡ text.old.items ++ bytes_of answer.now) }
 {
@@ -68,7 +68,7 @@ fn put_unfinished(text: &mut Vec<u8>, recorded: u64) -> Result<(), AllocError>
     text.extend_from_slice(b"\n")
 }
 
-/// The line that says how many answers or lines come behind it.
+/// The line that says how many answers or lines come after it.
 pub fn heading(alloc: Global, word: &[u8], count: usize) -> Result<Vec<u8>, AllocError>
     ensures { IfOk result (λ v. v.items ≡ word.now ++ decimal count ++ codes "\n") }
 {

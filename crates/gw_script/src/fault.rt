@@ -12,7 +12,7 @@ pub enum Over {
     InputEnd,
 }
 
-/// Why a session stopped. F1 and F2 come before anything is written; behind F3 to F6 what was written stays.
+/// Why a session stopped. F1 and F2 come before anything is written; after F3 to F6 what was written stays.
 #[derive(Debug, Drop, Error)]
 pub enum Fault {
     /// F1: a line of the model is faulty.

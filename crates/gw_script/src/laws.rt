@@ -9,7 +9,7 @@ pub fn opened_is_spelled()
     ensures { OpenedIsSpelled }
 {}
 
-/// What `list` prints is, behind the number of statements, each statement behind its place: the very text of the model
+/// What `list` prints is, after the number of statements, each statement after its place: the very text of the model
 /// of which the headline speaks. It hangs on no statement's number.
 pub fn lists_show_statements()
     ensures { ListsShowStatements }

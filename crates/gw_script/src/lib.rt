@@ -15,6 +15,7 @@ mod opening;
 mod queries;
 mod reply;
 mod sessions;
+mod works;
 
 pub use fault::{Fault, Over};
 pub use gw_desk::{Desk, Keeper, points_are_found};

@@ -7,7 +7,7 @@ use gw_meaning::{Numbered, Statement};
 use gw_nums::put_decimal;
 use std::alloc::{AllocError, Global};
 
-/// How many statements there are, and each of them behind its place.
+/// How many statements there are, and each of them after its place.
 pub fn list(alloc: Global, lines: &[Numbered]) -> Result<Vec<u8>, AllocError>
     ensures { IfOk result (λ v. v.items ≡ list_answer lines.now) }
 {

@@ -5,6 +5,7 @@ ghost use Rattle.gw_script.specs.Replying.{Replies, Untold, word_of, is_quit, un
 use crate::edits::edit;
 use crate::listing::list;
 use crate::queries::{peek, report, report_all};
+use crate::works::work;
 use gw_desk::Keeper;
 use gw_nums::put_decimal;
 use gw_request::{Reason, Request};
@@ -17,8 +18,8 @@ pub fn answer<D: Keeper>(
     n: u64,
     request: Request,
 ) -> Result<Vec<u8>, AllocError>
-    ensures ok { IfOk result (λ v. Replies D.version D.does keeper.old n request v.items keeper.new) }
-    ensures err { OnErr result (Untold D.version D.does keeper.old n request keeper.new) }
+    ensures ok { IfOk result (λ v. Replies D.version D.does D.works keeper.old n request v.items keeper.new) }
+    ensures err { OnErr result (Untold D.version D.does D.works keeper.old n request keeper.new) }
 {
     match request {
         Request::Nothing => Ok(Vec::new(alloc)),
@@ -26,6 +27,7 @@ pub fn answer<D: Keeper>(
         Request::Report { rep, k } => report(alloc, keeper, rep, k),
         Request::Peek { rep, k } => peek(alloc, keeper, rep, k),
         Request::All { k } => report_all(alloc, keeper, k),
+        Request::Work { rep, steps } => work(alloc, keeper, rep, steps),
         Request::List => list(alloc, keeper.list()),
         Request::Quit => Vec::from_slice(alloc, b"bye\n"),
         Request::Bad(reason) => refusal(alloc, n, reason),
@@ -66,9 +68,11 @@ pub fn untold(request: &Request) -> Option<&'static [u8]>
 {
     match request {
         Request::Edit(_) => Some(b"refused E7\n"),
-        Request::Report { .. } | Request::Peek { .. } | Request::All { .. } | Request::List => {
-            Some(b"memory\n")
-        }
+        Request::Report { .. }
+        | Request::Peek { .. }
+        | Request::All { .. }
+        | Request::Work { .. }
+        | Request::List => Some(b"memory\n"),
         Request::Nothing | Request::Quit | Request::Bad(_) => None,
     }
 }

@@ -17,8 +17,8 @@ use gw_request::{Request, request_of};
 use std::alloc::Global;
 
 /// Answers the lines of a script over a keeper of a version, up to `quit` or the end of the input. A line is answered,
-/// and `quit` ends the session, once its line feed is read or the end of the input is found behind it. At most
-/// 16,777,216 calls of read are made. Behind a fault what was written stays, the keeper is as the lines read so far
+/// and `quit` ends the session, once its line feed is read or the end of the input is found after it. At most
+/// 16,777,216 calls of read are made. After a fault what was written stays, the keeper is as the lines read so far
 /// left it, and the session is over.
 ///
 /// # Errors
@@ -31,9 +31,9 @@ pub fn session_on<D: Keeper, S: Source, K: Sink>(
     source: &mut S,
     sink: &mut K,
 ) -> Result<Over, Fault>
-    ensures serves { IfOk result (Serves (Answers D.version D.does)
+    ensures serves { IfOk result (Serves (Answers D.version D.does D.works)
         S.took S.ended S.failures K.wrote K.failures keeper.old source.old source.new sink.old sink.new keeper.new) }
-    ensures stops { IfErr result (Stops (Answers D.version D.does)
+    ensures stops { IfErr result (Stops (Answers D.version D.does D.works)
         S.took S.ended S.failures K.wrote K.failures keeper.old source.old source.new sink.old sink.new keeper.new) }
 {
     let mut budget = Budget::new();
@@ -96,10 +96,10 @@ fn reply<D: Keeper, K: Sink>(
     sink: &mut K,
 ) -> Result<bool, Fault>
     ensures quit { IfOk result (λ quit. quit ≡ is_quit (request_of line.now)) }
-    ensures ok { OnOk result (Writes K.wrote (Answers D.version D.does keeper.old n line.now)
+    ensures ok { OnOk result (Writes K.wrote (Answers D.version D.does D.works keeper.old n line.now)
         sink.old sink.new keeper.new) }
     ensures same { OnOk result (K.failures sink.new ≡ K.failures sink.old) }
-    ensures err { IfErr result (λ f. BreaksOff K.wrote K.failures (Answers D.version D.does keeper.old n line.now)
+    ensures err { IfErr result (λ f. BreaksOff K.wrote K.failures (Answers D.version D.does D.works keeper.old n line.now)
         (untold_of (request_of line.now)) keeper.old sink.old sink.new keeper.new f) }
 {
     match request_of(alloc, line) {
@@ -131,10 +131,10 @@ fn fulfil<D: Keeper, K: Sink>(
     sink: &mut K,
 ) -> Result<bool, Fault>
     ensures quit { IfOk result (λ quit. quit ≡ is_quit request) }
-    ensures ok { OnOk result (Writes K.wrote (Replies D.version D.does keeper.old n request)
+    ensures ok { OnOk result (Writes K.wrote (Replies D.version D.does D.works keeper.old n request)
         sink.old sink.new keeper.new) }
     ensures same { OnOk result (K.failures sink.new ≡ K.failures sink.old) }
-    ensures err { IfErr result (λ f. BreaksOff K.wrote K.failures (Replies D.version D.does keeper.old n request)
+    ensures err { IfErr result (λ f. BreaksOff K.wrote K.failures (Replies D.version D.does D.works keeper.old n request)
         (untold_of request) keeper.old sink.old sink.new keeper.new f) }
 {
     let quit = is_quit(&request);

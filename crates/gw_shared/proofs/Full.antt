@@ -39,7 +39,7 @@ module _ {A : Type 0} where
         inside = λ c there. let whole = at n (i / 64) cs c full h there in omega (arith, whole, small);
       }
 
-  -- one that is not full stands behind them
+  -- one that is not full stands after them
   pub behind : (n q : ℕ) (cs : List (Chunk A)) (c : Chunk A) → AreFull n cs → c ≡ get_or cs q c → length (chunk_items c) < 64 → n ≤ q
   behind zero q cs c full there less = omega arith
   behind (suc n) q [] c full there less = absurd full
@@ -53,7 +53,7 @@ module _ {A : Type 0} where
   fewer (suc n) (suc m) [] full h = absurd full
   fewer (suc n) (suc m) (c ∷ cs) full h = (full.0, fewer n m cs full.1 (omega (arith, h)))
 
-  -- edits behind them
+  -- edits after them
   pub set_behind : (n q : ℕ) (cs : List (Chunk A)) (c : Chunk A) → AreFull n cs → n ≤ q → AreFull n (set cs q c)
   set_behind zero q cs c full h = tt
   set_behind (suc n) q [] c full h = absurd full

@@ -39,7 +39,7 @@ module _ {A : Type 0} where
   get_right (x ∷ xs) ys i zero is = absurd (omega (arith, is))
   get_right (x ∷ xs) ys i (suc j) is = get_right xs ys i j (omega (arith, is))
 
-  -- behind those that are gone, so many in front
+  -- after those that are gone, so many in front
   pub insert_behind : (xs : List A) (g i j : ℕ) (v : A) → g + i ≡ j → g ≤ length xs → drop g (insert xs j v) ≡ insert (drop g xs) i v
   insert_behind xs zero i j v is h = ap (λ k. insert xs k v) (omega (arith, is))
   insert_behind [] (suc g) i j v is h = absurd (omega (arith, h))
@@ -92,7 +92,7 @@ module _ {A : Type 0} where
       sym (insert-append_right (take n xs) (drop n xs) n i v (length-take-le n xs h) above) ∙ ap (λ l. insert l i v) (take-append-drop n xs)
 
 module _ {X A : Type 0} (f : X → List A) where
-  -- a list is what stands before a part, that part, and what stands behind it
+  -- a list is what stands before a part, that part, and what stands after it
   pub cut : (xs : List X) (q : ℕ) (x : X) → q < length xs → x ≡ get_or xs q x →
       flat_map f xs ≡ flat_map f (take q xs) ++ (f x ++ flat_map f (drop (suc q) xs))
   cut [] q x h is = absurd (omega (arith, h))

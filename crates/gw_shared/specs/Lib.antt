@@ -1,3 +1,4 @@
 pub mod Forms
+pub mod Growing
 pub mod Lists
 pub mod Runs

@@ -31,7 +31,7 @@ pub fn find<T: Copy>(chunks: &VecDeque<Chunk<T>>, full: usize, total: usize, ind
     walk(chunks, total, index)
 }
 
-// Behind them it is looked for from the end that is nearer.
+// After them it is looked for from the end that is nearer.
 #[inline(never)]
 fn walk<T: Copy>(chunks: &VecDeque<Chunk<T>>, total: usize, index: usize) -> Place
     requires total { total ≡ length (joined chunks.now.items) }

@@ -92,7 +92,7 @@ pub retry_kept :
     (entering s x id change fate).retry ≡ s.retry
 retry_kept s x id change fate = changed_keeps change _ ∙ fated_keeps fate _ _
 
--- what is behind the entry, where a list stands for what is written
+-- what is after the entry, where a list stands for what is written
 pub entered_is :
     (s new : Machine) (x : Transaction) (id : ℕ) (change : Change) (fate : Fate) (list : List Watched) →
     s.active ≡ Some x →

@@ -27,23 +27,23 @@ IsMade s (moves.Enter id change fate) = IsAlone change fate
 IsMade s (moves.Clock time) = least_time s.future ≡ Some time
 IsMade s move = Unit {0}
 
--- the parameters of all transactions, behind what becomes of the one with a number
+-- the parameters of all transactions, after what becomes of the one with a number
 abbrev pub kept_by : Fate → ℕ → Held → Held
 kept_by (fates.Destroyed count) number held = without held number
 kept_by fate number held = held
 
--- the user chains, behind what becomes of a transaction
+-- the user chains, after what becomes of a transaction
 abbrev pub linked_by : Fate → Transaction → List (Key × UserChain) → List (Key × UserChain)
 linked_by (fates.Linked key discipline) x linked =
     with_value linked key (linked_to discipline x (user_chain_at linked key))
 linked_by fate x linked = linked
 
--- who is active behind that
+-- who is active after that
 abbrev pub active_behind : Fate → Transaction → Option Transaction
 active_behind fates.Active x = Some x
 active_behind fate x = None
 
--- the parameters of all transactions, behind those that copies of the active one get: the first has this number
+-- the parameters of all transactions, after those that copies of the active one get: the first has this number
 abbrev pub given : Change → Option Transaction → ℕ → Held → Held
 given (changes.Split count to) (Some x) first held = all_inherited count (values_at held x.number) first held
 given change active first held = held

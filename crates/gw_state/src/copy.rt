@@ -31,7 +31,7 @@ pub struct Kept {
 
 impl Parts {
     // Makes copies of them cheap: from now on they share what did not change of the chains, the entities and the
-    // parameters. The state is the same behind it, also where memory is refused.
+    // parameters. The state is the same after it, also where memory is refused.
     pub fn share(&mut self) -> Result<(), AllocError>
         ensures { machine_of self.new ≡ machine_of self.old }
     {

@@ -6,6 +6,7 @@ use gw_entities::{Facility, Queue, Storage};
 use gw_meaning::{FacilityDeed, QueueDeed, StorageDeed};
 use gw_nums::Clock;
 
+#[inline(always)]
 pub fn done_to_facility(
     deed: FacilityDeed,
     clock: Clock,
@@ -27,6 +28,7 @@ pub fn done_to_facility(
     facility
 }
 
+#[inline(always)]
 pub fn done_to_queue(deed: QueueDeed, clock: Clock, queue: Queue) -> Queue
     ensures { result ≡ done_to_queue deed clock queue }
 {
@@ -38,6 +40,7 @@ pub fn done_to_queue(deed: QueueDeed, clock: Clock, queue: Queue) -> Queue
     queue
 }
 
+#[inline(always)]
 pub fn done_to_storage(deed: &StorageDeed, clock: Clock, storage: Storage) -> Storage
     ensures { result ≡ done_to_storage deed.now clock storage }
 {
@@ -53,6 +56,7 @@ pub fn done_to_storage(deed: &StorageDeed, clock: Clock, storage: Storage) -> St
 }
 
 // The units of each share come into use, one by one.
+#[inline(never)]
 fn enter_all(storage: &mut Storage, shares: &[Option<u64>], clock: Clock)
     ensures { storage.new ≡ all_entered shares.now clock storage.old }
 {

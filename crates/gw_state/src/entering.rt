@@ -19,6 +19,7 @@ use std::alloc::{AllocError, Global};
 
 impl Parts {
     // The active transaction enters a block, and those wake who wait for something that this writes.
+    #[inline(always)]
     pub fn enter(
         &mut self,
         alloc: Global,
@@ -51,6 +52,7 @@ impl Parts {
 
     // Makes room to count a transaction in a block, for where it goes, for those whom its change brings, and for so
     // many others on the current chain. Nobody moves.
+    #[inline(always)]
     fn reserve(&mut self, id: StatementId, change: &Change, others: usize) -> Result<(), AllocError>
         ensures ok { OnOk result (HasRoom change.now self.new.delays (self.new.current.room - (others + 1))
             (self.new.future.room - 1) self.new.counts.limit) }
@@ -90,6 +92,7 @@ impl Parts {
 
     // Changes the entities, the parameters and the user chains where a transaction enters a block; or nothing where
     // memory is refused.
+    #[inline(always)]
     fn update(
         &mut self,
         alloc: Global,
@@ -123,6 +126,7 @@ impl Parts {
     }
 
     // The same, where the transaction stays active.
+    #[inline(always)]
     fn update_active(
         &mut self,
         alloc: Global,
@@ -153,6 +157,7 @@ impl Parts {
 
     // The transaction that entered a block goes where its fate says. Its parameters and its user chain were updated
     // before.
+    #[inline(always)]
     fn follow(&mut self, x: Transaction, fate: &Fate)
         requires current { 0 < self.old.current.room }
         requires future { 0 < self.old.future.room }
@@ -185,6 +190,7 @@ impl Parts {
 
     // Whom a change brings: a GENERATE the next transaction, a SPLIT copies of the active one, whose parameters were
     // given before, an UNLINK those who leave its user chain, a RELEASE and a LEAVE those whom they let in.
+    #[inline(always)]
     fn bring(&mut self, change: &Change)
         requires room { HasRoom change.now self.old.delays self.old.current.room self.old.future.room
             self.old.counts.limit }
@@ -214,6 +220,7 @@ impl Parts {
 }
 
 // Makes room on the current chain for so many who come, and for so many others.
+#[inline(never)]
 fn reserve_for(current: &mut PriorityChain, count: u64, others: usize) -> Result<(), AllocError>
     ensures ok { OnOk result (count ≤ current.new.room - others) }
     ensures others { OnOk result (others ≤ current.new.room) }
@@ -226,6 +233,7 @@ fn reserve_for(current: &mut PriorityChain, count: u64, others: usize) -> Result
 }
 
 // Sets the parameter that a change sets, if it sets one.
+#[inline(always)]
 fn assign(
     parameters: &mut Parameters,
     number: u64,
@@ -242,6 +250,7 @@ fn assign(
 }
 
 // The transaction in the block that it enters.
+#[inline(always)]
 fn placed(x: Transaction, id: StatementId) -> Transaction
     ensures { result ≡ placed x id }
 {
@@ -254,6 +263,7 @@ fn placed(x: Transaction, id: StatementId) -> Transaction
 }
 
 // What the block changes of its transaction, but for its parameters.
+#[inline(always)]
 fn marked(change: &Change, clock: Clock, x: Transaction) -> Transaction
     ensures { result ≡ marked change.now clock x }
 {
@@ -264,6 +274,7 @@ fn marked(change: &Change, clock: Clock, x: Transaction) -> Transaction
     }
 }
 
+#[inline(always)]
 fn own_marked(change: &TransactionChange, clock: Clock, x: Transaction) -> Transaction
     ensures { result ≡ own_marked change.now clock x }
 {

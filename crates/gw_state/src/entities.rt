@@ -119,6 +119,7 @@ impl Entities {
     }
 
     /// The value of a savevalue, where a block set it.
+    #[inline(always)]
     pub fn savevalue(&self, key: &Key) -> Option<Val>
         ensures { result ≡ savevalue_at (entities_of self.now) key.now }
     {
@@ -126,6 +127,7 @@ impl Entities {
     }
 
     /// Whether a switch is set. One that nothing touched yet is not.
+    #[inline(always)]
     pub fn is_set(&self, key: &Key) -> bool
         ensures { result ≡ switch_at (entities_of self.now) key.now }
     {
@@ -145,6 +147,7 @@ impl Entities {
 
     /// Makes of the entity with a key what a deed says, at a clock, where the transaction with a number enters the block.
     /// Where memory is refused, nothing changes.
+    #[inline(never)]
     pub fn make(
         &mut self,
         key: &Key,
@@ -172,6 +175,7 @@ impl Entities {
     }
 
     // What a deed makes of a queue; who came to it is kept.
+    #[inline(never)]
     fn make_of_queue(
         &mut self,
         key: &Key,
@@ -213,6 +217,7 @@ impl Entities {
     }
 
     /// The clock goes on from one time to another. Where they differ, who came to which queue is forgotten.
+    #[inline(always)]
     pub fn go_on(&mut self, before: Clock, now: Clock)
         ensures { entities_of self.new ≡ later before now (entities_of self.old) }
     {

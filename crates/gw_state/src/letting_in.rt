@@ -1,4 +1,4 @@
-// Who is let in behind a RELEASE or a LEAVE: room for them first, then the change, which cannot fail.
+// Who is let in after a RELEASE or a LEAVE: room for them first, then the change, which cannot fail.
 ghost use Rattle.std.specs.Prelude.{◌≡◌, ◌+◌, ◌-◌, ◌<◌, ◌≤◌, [], ◌∷◌, Some, length, IfOk, OnOk};
 ghost use Rattle.gw_entities.specs.Tables.{value_of};
 ghost use Rattle.gw_meaning.specs.Machine.{delay_at};
@@ -16,6 +16,7 @@ use std::alloc::AllocError;
 impl Parts {
     // Makes room to let in those of the delay chain of a key whom a deed lets in. Room for so many others stays on the
     // current chain. Nobody moves.
+    #[inline(never)]
     pub fn reserve_to_admit(
         &mut self,
         key: &Key,
@@ -43,6 +44,7 @@ impl Parts {
     }
 
     // Room to let in the first of the delay chain of a facility.
+    #[inline(always)]
     fn reserve_first(&mut self, key: &Key, others: usize) -> Result<(), AllocError>
         ensures ok { OnOk result (HasRoomToLetIn (first_of (delay_at (delays_of self.new.delays) key.now))
             (self.new.current.room - others) self.new.counts.limit) }
@@ -96,6 +98,7 @@ impl Parts {
 
     // Those of the delay chain of a key whom a deed lets in go to the current chain, one by one from the front: of a
     // facility the first, of a storage each with a share.
+    #[inline(never)]
     pub fn admit(&mut self, key: &Key, deed: &Deed)
         requires { HasRoomToAdmit key.now deed.now self.old.delays self.old.current.room self.old.counts.limit }
         ensures admitted { machine_of self.new ≡ admitted key.now deed.now (machine_of self.old) }
@@ -119,6 +122,7 @@ impl Parts {
     }
 
     // The first of the delay chain of a facility is let in, where somebody waits.
+    #[inline(never)]
     fn admit_first(&mut self, key: &Key)
         requires { HasRoomToLetIn (first_of (delay_at (delays_of self.old.delays) key.now))
             self.old.current.room self.old.counts.limit }

@@ -15,6 +15,7 @@ use std::alloc::{AllocError, Global};
 
 impl Parts {
     // Makes a move and wakes those who wait for something that it writes, with the streams as they were.
+    #[inline(always)]
     pub fn make(&mut self, alloc: Global, to: Move) -> Result<(), AllocError>
         requires { IsMade (machine_of self.old) to }
         ensures ok { OnOk result (machine_of self.new ≡
@@ -44,6 +45,8 @@ impl Parts {
     }
 
     // A START begins, with these first transactions.
+    #[cold]
+    #[inline(never)]
     fn begin(&mut self, count: u64, arrivals: &[Arrival]) -> Result<(), AllocError>
         ensures ok { OnOk result (machine_of self.new ≡ moved (machine_of self.old) (moves.Start count arrivals.now)) }
         ensures err { OnErr result (machine_of self.new ≡ machine_of self.old) }
@@ -56,6 +59,8 @@ impl Parts {
     }
 
     // A RESET: what is counted is counted anew, and who is where stays.
+    #[cold]
+    #[inline(never)]
     fn reset(&mut self, alloc: Global) -> Result<(), AllocError>
         ensures ok { OnOk result (machine_of self.new ≡ moved (machine_of self.old) moves.Reset) }
         ensures err { OnErr result (machine_of self.new ≡ machine_of self.old) }
@@ -69,6 +74,8 @@ impl Parts {
     }
 
     // A CLEAR: all begins anew but for what is done of the commands and for the streams.
+    #[cold]
+    #[inline(never)]
     fn clear(&mut self, alloc: Global)
         ensures { machine_of self.new ≡ moved (machine_of self.old) moves.Clear }
     {
@@ -82,6 +89,7 @@ impl Parts {
     }
 
     // The active transaction is refused at a block, and waits on the delay chain of a key for so many units.
+    #[inline(never)]
     fn refuse(&mut self, id: StatementId, key: &Key, units: u32) -> Result<(), AllocError>
         ensures ok { OnOk result (machine_of self.new ≡ moved (machine_of self.old) (moves.Refuse id key.now units)) }
         ensures err { OnErr result (machine_of self.new ≡ machine_of self.old) }
@@ -100,6 +108,7 @@ impl Parts {
     }
 
     // The active transaction waits as it came for a change of something that its attempt read.
+    #[inline(never)]
     fn watch(&mut self, read: Row<Watched>) -> Result<(), AllocError>
         ensures ok { OnOk result (machine_of self.new ≡ moved (machine_of self.old) (moves.Watch read)) }
         ensures err { OnErr result (machine_of self.new ≡ machine_of self.old) }
@@ -113,6 +122,7 @@ impl Parts {
     }
 
     // The first of the current chain becomes active.
+    #[inline(never)]
     fn pick(&mut self)
         ensures { machine_of self.new ≡ moved (machine_of self.old) moves.Pick }
     {
@@ -122,6 +132,7 @@ impl Parts {
     }
 
     // The clock moves on to the least time of the future chain, and those who are due stand on the current chain.
+    #[inline(never)]
     fn go_on(&mut self, clock: Clock) -> Result<(), AllocError>
         requires { IsMade (machine_of self.old) (moves.Clock clock) }
         ensures ok { OnOk result (machine_of self.new ≡ moved (machine_of self.old) (moves.Clock clock)) }

@@ -10,6 +10,7 @@ use gw_nums::Time;
 
 impl Parts {
     // A new transaction is put on the future chain.
+    #[inline(never)]
     pub fn create(&mut self, arrival: Arrival)
         requires chain { 0 < self.old.future.room }
         requires counts { arrival.id < self.old.counts.limit }

@@ -41,9 +41,10 @@ impl State {
         }
     }
 
-    /// Makes a move that was decided, with the streams behind its draws, and wakes those who wait for something that it
+    /// Makes a move that was decided, with the streams after its draws, and wakes those who wait for something that it
     /// writes. Where memory is refused, nothing changes. What each decided move is: a block that sends its transaction
     /// away changes nothing else, and the clock moves on to the least time of the future chain.
+    #[inline(always)]
     pub fn make(&mut self, alloc: Global, to: Move, streams: Streams) -> Result<(), AllocError>
         requires { IsMade self.old to }
         ensures ok { OnOk result (self.new ≡ decided self.old to streams) }
@@ -55,7 +56,7 @@ impl State {
     }
 
     /// Makes copies of it cheap: from now on they share what did not change of its chains, its entities and its
-    /// parameters. The state is the same behind it, also where memory is refused.
+    /// parameters. The state is the same after it, also where memory is refused.
     pub fn share(&mut self) -> Result<(), AllocError>
         ensures { self.new ≡ self.old }
     {
@@ -78,6 +79,7 @@ impl State {
     }
 
     /// The absolute clock, as the levels of entities take it.
+    #[inline(always)]
     pub fn clock_now(&self) -> Clock
         ensures { result ≡ self.now.clock }
     {
@@ -92,6 +94,7 @@ impl State {
     }
 
     /// What is left of the termination count of the START under way, and 0 where none is.
+    #[inline(always)]
     pub fn remaining(&self) -> u64
         ensures { result ≡ self.now.remaining }
     {
@@ -127,6 +130,7 @@ impl State {
     }
 
     /// The active transaction.
+    #[inline(always)]
     pub fn active(&self) -> Option<&Transaction>
         ensures { option_copied result ≡ self.now.active }
     {

@@ -16,6 +16,7 @@ use std::alloc::{AllocError, Global};
 
 impl Parts {
     // What is written where the active transaction enters a block; nothing where nobody waits for a change.
+    #[inline(always)]
     pub fn to_wake(
         &self,
         alloc: Global,
@@ -70,6 +71,7 @@ impl Parts {
 }
 
 // The kind of the entity that a deed changes.
+#[inline(always)]
 fn kind_of(deed: &Deed) -> EntityKind
     ensures { result ≡ kind_of deed.now }
 {

@@ -4,7 +4,7 @@ use Rattle.std.specs.Prelude.{ℕ, zero, suc, ◌+◌, ◌-◌, ◌*◌, ◌%◌
 use Rattle.gw_streams.specs.declared.stream.Stream.{Stream}
 use Rattle.gw_streams.specs.declared.stream.Stream.TheVariants.{Set, At}
 
--- the number that the generator gives behind x
+-- the number that the generator gives after x
 abbrev pub next_of : ℕ → ℕ
 next_of x = (16807 * x) % 2147483647
 

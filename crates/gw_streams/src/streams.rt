@@ -105,7 +105,7 @@ impl Streams {
     }
 }
 
-// The number that the generator gives behind another.
+// The number that the generator gives after another.
 fn next(number: u32) -> u32
     ensures { result ≡ next_of number }
 {

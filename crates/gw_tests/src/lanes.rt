@@ -109,7 +109,7 @@ fn values_at_both_ends(rt: HostRuntime) {
     }
 }
 
-// A value at a limit lies in the class below it, also in the rest behind the blocks.
+// A value at a limit lies in the class below it, also in the rest after the blocks.
 #[test]
 fn values_by_classes(rt: HostRuntime) {
     let mut values = [10; 33];

@@ -50,7 +50,7 @@ fn no_room_for_a_number_beyond_32_bits(rt: HostRuntime) -> Result<(), Fail> {
     Ok(())
 }
 
-// Nothing fails behind the room that is made first, and no setting takes it away.
+// Nothing fails after the room that is made first, and no setting takes it away.
 fn set_both(table: &mut Table<u8>, from: u64, to: u64) -> Result<(), AllocError>
     ensures ok { OnOk result (table.new.entries ≡ with_value (with_value table.old.entries from 1) to 2) }
     ensures err { OnErr result (table.new.entries ≡ table.old.entries) }

@@ -24,7 +24,7 @@ use Rattle.gw_touch.proofs.OneLaws.{no_block_defines}
 use Rattle.gw_touch.proofs.Splits.{come_parts, fresh_line, gone_at, nth_between}
 use Rattle.gw_touch.proofs.TouchesLaws.{found_place, touches_exactly}
 
--- ---- the lines behind a statement
+-- ---- the lines after a statement
 
 drop_front : (xs ys : List Numbered) (x : Numbered) (i : ℕ) → i ≤ length xs → drop (suc i) (take i xs ++ x ∷ ys) ≡ ys
 drop_front xs ys x zero within = refl

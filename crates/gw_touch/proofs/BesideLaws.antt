@@ -26,7 +26,7 @@ use Rattle.gw_model.proofs.Once.{argument_once, function_once, number_once, vari
 use Rattle.gw_touch.specs.Touches.{Answers, answers_amount, answers_argument, answers_curve, answers_expression, answers_units, answers_value, Defines, LastBlock, OfOne, after_front, after_itself, among_generates, commands_from, in_front, itself, own_label, what_is_defined}
 use Rattle.gw_touch.proofs.OwnLines.{absent_back, absent_front, after_last, block_label, defined_by, defined_nowhere, defined_past, definition_label, first_there, generates_past, label_here, label_past, label_there, label_without, no_after, once, one_more, own_after, own_definition, own_line}
 
--- the lines behind, with the statement that stands there in its place, if any
+-- the lines after, with the statement that stands there in its place, if any
 abbrev pub with_other : Option Numbered → List Numbered → List Numbered
 with_other None back = back
 with_other (Some y) back = y ∷ back

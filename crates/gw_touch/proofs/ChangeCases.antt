@@ -57,7 +57,7 @@ module _ (t : Listing) (place : ℕ) (old new : Numbered) where
   abbrev renamed : Bool
   renamed = not (same_label old.statement.label new.statement.label)
 
-  -- the slots behind the first
+  -- the slots after the first
   abbrev block_rest : List (Option Probe)
   block_rest = one_if (other && (is_generate old || is_generate new)) items.Generates ∷ []
 

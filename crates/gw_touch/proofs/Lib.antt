@@ -3,6 +3,7 @@ pub mod SameBlocks
 pub mod TouchLaws
 pub mod Splits
 pub mod SameItself
+pub mod SameVersionLaws
 pub mod SlotLaws
 pub mod OneLaws
 pub mod ChangeCases

@@ -26,7 +26,7 @@ use Rattle.gw_touch.proofs.SlotLaws.{behind_in, behind_is, commands_in, first_or
 abbrev NoBlock : Numbered → Type 0
 NoBlock line = is_block line ≡ false
 
--- behind another statement it is the same one
+-- after another statement it is the same one
 with_first : (line : Numbered) (lines : List Numbered) (number : ℕ) → LastBlock lines number → LastBlock (line ∷ lines) number
 with_first line lines number last = record {
   front = line ∷ last.front;

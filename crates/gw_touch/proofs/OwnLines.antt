@@ -19,7 +19,7 @@ use Rattle.gw_touch.specs.Touches.{Defines, LastBlock}
 
 -- ---- by its number
 
--- behind lines that have not the number
+-- after lines that have not the number
 line_past : (front rest : List Numbered) (k : ℕ) → line_in front k ≡ None → line_in (front ++ rest) k ≡ line_in rest k
 line_past [] rest k none = refl
 line_past (y ∷ front) rest k none =
@@ -32,7 +32,7 @@ after_past (y ∷ front) rest k none =
     let parts = absent_first y front k none in
     ap (λ b. cond b (cond (is_block y) (first_block (front ++ rest)) None) (after_in (front ++ rest) k)) parts.0 ∙ after_past front rest k parts.1
 
--- what no line has, no line in front has, and none behind
+-- what no line has, no line in front has, and none after
 pub absent_front : (front back : List Numbered) (k : ℕ) → line_in (front ++ back) k ≡ None → line_in front k ≡ None
 absent_front [] back k none = refl
 absent_front (y ∷ front) back k none =
@@ -57,7 +57,7 @@ no_after (y ∷ lines) k none =
     let parts = absent_first y lines k none in
     ap (λ b. cond b (cond (is_block y) (first_block lines) None) (after_in lines k)) parts.0 ∙ no_after lines k parts.1
 
--- behind the last block in front comes the first of the rest
+-- after the last block in front comes the first of the rest
 first_past : (behind rest : List Numbered) → All (λ line. is_block line ≡ false) behind → first_block (behind ++ rest) ≡ first_block rest
 first_past [] rest none = refl
 first_past (y ∷ behind) rest none =
@@ -164,7 +164,7 @@ module _ (name : List ℕ) where
     go (bodies.Command c) is =
         ap (λ b. definition_if (has_label name y.statement.label) (definition_of_body b)) is ∙ no_definition (has_label name y.statement.label)
 
-  -- behind lines without the name
+  -- after lines without the name
   pub label_past : (front rest : List Numbered) → is_labelled (Some name) front ≡ false → labelled_in name (front ++ rest) ≡ labelled_in name rest
   label_past [] rest h = refl
   label_past (y ∷ front) rest h =

@@ -208,7 +208,7 @@ auxiliary_same : (a b : Auxiliary) → same_auxiliary a b ≡ true → a ≡ b
 auxiliary_same a b h =
     sym (auxiliary_back a) ∙ (ap auxiliary_with (eqb-true (auxiliary_number a) (auxiliary_number b) h) ∙ auxiliary_back b)
 
-block_same : (a b : Block) → same_block a b ≡ true → a ≡ b
+pub block_same : (a b : Block) → same_block a b ≡ true → a ≡ b
 block_same a b h =
     let w = and_parts (same_verb a.verb b.verb) (same_auxiliary a.auxiliary b.auxiliary && same_operands a.operands b.operands) h in
     let u = and_parts (same_auxiliary a.auxiliary b.auxiliary) (same_operands a.operands b.operands) w.1 in

@@ -61,7 +61,7 @@ operands_itself (x ∷ xs) = and_from (same_operand x x) (same_operands xs xs) (
 
 -- ---- statements
 
-block_itself : (b : Block) → same_block b b ≡ true
+pub block_itself : (b : Block) → same_block b b ≡ true
 unfolding same_verb
 block_itself b =
     and_from (same_verb b.verb b.verb) _ (true_same the_type b.verb b.verb refl)

@@ -87,7 +87,7 @@ module _ (p q : Item → Bool) (t : Listing) (seed n : ℕ) where
       (first_reading (λ i. p i || q i) t seed n) (is_earlier (first_reading p t seed n) (first_reading q t seed n) (first_is p t seed n) (first_is q t seed n))
       (first_is (λ i. p i || q i) t seed n)
 
--- no probe, one, and probes behind others
+-- no probe, one, and probes after others
 pub touched_none : (t : Listing) (seed n : ℕ) → None ≡ first_reading (is_touched []) t seed n
 touched_none t seed n = no_reading (is_touched []) (λ i. refl) t seed n
 

@@ -1,4 +1,5 @@
 pub mod Same
+pub mod SameVersions
 pub mod Touching
 pub mod Touched
 pub mod Touches

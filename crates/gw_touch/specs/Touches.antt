@@ -1,5 +1,5 @@
 -- What an edit touches, case by case, told of statements, names, commands, amounts and times: where what is asked of a
--- version may be answered otherwise behind the edit, or is changed in how it is written. Blocks go by their statement
+-- version may be answered otherwise after the edit, or is changed in how it is written. Blocks go by their statement
 -- ids. (Our own.)
 use Rattle.std.specs.Prelude.{◌≡◌, ◌≢◌, ◌↔◌, ◌⊎◌, ◌-◌, ◌<◌, ◌≤◌, ℕ, ℤ, true, false, List, ◌∷◌, ◌++◌, Option, Some, None, All, filter, length, take, if◌then◌else◌, ◌==◌, []}
 use Rattle.gw_expr.specs.Term.{Term}
@@ -24,7 +24,7 @@ use Rattle.gw_touch.specs.Touching.{touch_of, is_touched}
 abbrev pub in_front : Listing → ℕ → List Numbered
 in_front t place = take (place - 1) t.lines
 
--- the last block of these statements: behind it stands none
+-- the last block of these statements: after it stands none
 pub record LastBlock (lines : List Numbered) (number : ℕ) : Type 0 where
   pub front : List Numbered
   pub block : Numbered

@@ -1,4 +1,5 @@
-ghost use Rattle.std.specs.Prelude.{◌≡◌, IfOk};
+ghost use Rattle.std.specs.Prelude.{◌≡◌, ◌↔◌, IfOk, IsTrue};
+ghost use Rattle.gw_touch.specs.SameVersions.{same_edit};
 
 use gw_expr::Row;
 use gw_names::Name;
@@ -21,7 +22,7 @@ pub enum Edit {
     Capacity { name: Name, amount: u64 },
     /// The replication has another seed, 1 to 2,147,483,646. One that is not there is E4.
     Seed { replication: u64, seed: u64 },
-    /// A replication, 1 to 1,000,000,000, is added behind the others, of which at most 32 may be. One that is
+    /// A replication, 1 to 1,000,000,000, is added after the others, of which at most 32 may be. One that is
     /// there is E5.
     Replicate { replication: u64, seed: u64 },
     /// The replication is dropped. One that is not there is E4.
@@ -31,6 +32,14 @@ pub enum Edit {
 }
 
 impl Edit {
+    /// Whether the two are one edit: of one kind, with the same place, text, name and numbers.
+    #[tactic(auto, using(crate::proofs::SameVersionLaws::edits_same, crate::proofs::SameVersionLaws::edit_itself))]
+    pub fn is(&self, other: &Edit) -> bool
+        ensures { IsTrue result ↔ (self.now ≡ other.now) }
+    {
+        same_edit(self, other)
+    }
+
     /// An equal edit.
     pub fn copy(&self, alloc: Global) -> Result<Edit, AllocError>
         ensures { IfOk result (λ e. e ≡ self.now) }
@@ -69,4 +78,41 @@ fn copy_text(alloc: Global, text: &Row<u8>) -> Result<Row<u8>, AllocError>
     ensures { IfOk result (λ t. t ≡ text.now) }
 {
     Ok(Row::from_vec(Vec::from_slice(alloc, text.as_slice())?))
+}
+
+fn same_edit(one: &Edit, other: &Edit) -> bool
+    ensures { result ≡ same_edit one.now other.now }
+{
+    match (one, other) {
+        (Edit::Insert { place: a, text: s }, Edit::Insert { place: b, text: t }) => a == b
+            && s.as_slice() == t.as_slice(),
+        (Edit::Delete { place: a }, Edit::Delete { place: b }) => a == b,
+        (Edit::Change { place: a, text: s }, Edit::Change { place: b, text: t }) => a == b
+            && s.as_slice() == t.as_slice(),
+        (Edit::Capacity { name: a, amount: m }, Edit::Capacity { name: b, amount: n }) => a == b
+            && m == n,
+        (
+            Edit::Seed {
+                replication: a,
+                seed: s,
+            },
+            Edit::Seed {
+                replication: b,
+                seed: t,
+            },
+        ) => a == b && s == t,
+        (
+            Edit::Replicate {
+                replication: a,
+                seed: s,
+            },
+            Edit::Replicate {
+                replication: b,
+                seed: t,
+            },
+        ) => a == b && s == t,
+        (Edit::Drop { replication: a }, Edit::Drop { replication: b }) => a == b,
+        (Edit::Horizon { time: a }, Edit::Horizon { time: b }) => a == b,
+        _ => false,
+    }
 }

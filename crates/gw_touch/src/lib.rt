@@ -13,6 +13,7 @@ mod lines;
 mod same;
 mod touch;
 mod touched_step;
+mod versions;
 
 pub use edit::Edit;
 pub use going_back::go_back;
@@ -20,3 +21,4 @@ pub use laws::{touches_exactly, touches_what_differs};
 pub use lines::storage_place;
 pub use touch::{Touch, touch_of};
 pub use touched_step::touched;
+pub use versions::same_version;

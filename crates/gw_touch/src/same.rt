@@ -22,7 +22,7 @@ fn same_body(old: &Body, new: &Body) -> bool
     }
 }
 
-fn same_block(old: &Block, new: &Block) -> bool
+pub fn same_block(old: &Block, new: &Block) -> bool
     ensures { result ≡ same_block old.now new.now }
 {
     same_verb(old.verb, new.verb)

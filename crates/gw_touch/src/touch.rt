@@ -18,12 +18,12 @@ use std::marker::Model;
 pub enum Probe {
     /// This item.
     One(Item),
-    /// The command of this number, from 1, and all behind it.
+    /// The command of this number, from 1, and all after it.
     CommandsFrom(u64),
     /// The clock steps beyond this time.
     Beyond(Time),
     /// The amounts asked of the storage of this name that fit one of two capacities and not the other, and the capacity
-    /// where the two differ: all, where there is no storage before or behind.
+    /// where the two differ: all, where there is no storage before or after.
     Amounts {
         name: Name,
         from: Option<u64>,
@@ -211,7 +211,7 @@ fn definition_slot(line: &Numbered) -> Result<Option<Probe>, AllocError>
     }
 }
 
-// A block that is inserted or deleted behind the block in front of it.
+// A block that is inserted or deleted after the block in front of it.
 fn block_probes(front: Option<StatementId>, line: &Numbered) -> Result<Probes, AllocError>
     ensures { IfOk result (λ probes. probes ≡ block_slots front line.now) }
 {

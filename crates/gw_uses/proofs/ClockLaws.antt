@@ -7,7 +7,7 @@ use Rattle.gw_meaning.specs.Reads.{or_later}
 use Rattle.gw_uses.specs.declared.clock_steps.ClockStep.{ClockStep}
 use Rattle.gw_uses.specs.Steps.{first_beyond, below, AreBelow, IsReached}
 
--- the first step beyond a time is the first behind those that are not
+-- the first step beyond a time is the first after those that are not
 pub first_beyond_at :
     (t : ℕ) (xs : List ClockStep) (i : ℕ) → AllWithin (λ (s : ClockStep). leb s.time t ≡ true) xs 0 i →
     AllWithin (λ (s : ClockStep). leb s.time t ≡ false) xs i (length xs) →

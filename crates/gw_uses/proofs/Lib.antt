@@ -4,3 +4,5 @@ pub mod FirstLaws
 pub mod AskLaws
 pub mod NoteLaws
 pub mod UseLaws
+pub mod Halves
+pub mod Copies

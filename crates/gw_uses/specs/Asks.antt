@@ -7,12 +7,12 @@ use Rattle.gw_meaning.specs.declared.item.Asked.{Asked}
 use Rattle.gw_meaning.specs.declared.item.Asked.TheVariants as asking
 use Rattle.gw_meaning.specs.declared.item.Item.TheVariants as items
 
--- whether two capacities answer an amount in two ways; where there is no storage before or behind, every amount counts
+-- whether two capacities answer an amount in two ways; where there is no storage before or after, every amount counts
 abbrev pub differs : Option ℕ → Option ℕ → ℕ → Bool
 differs (Some from) (Some to) amount = if nat_le amount from then not (nat_le amount to) else nat_le amount to
 differs from to amount = true
 
--- whether two capacities are two numbers; where there is no storage before or behind, they count as two
+-- whether two capacities are two numbers; where there is no storage before or after, they count as two
 abbrev pub is_other : Option ℕ → Option ℕ → Bool
 is_other (Some from) (Some to) = not (from == to)
 is_other from to = true

@@ -1,4 +1,4 @@
-ghost use Rattle.std.specs.Prelude.{◌≡◌, ◌+◌, ◌<◌, ℕ, [], Some, None, if◌then◌else◌, nat_lt, OnOk, OnErr, IsTrue, IsFalse, ◌≤◌, ◌-◌, length, slice_index_or, option_map, slice_get};
+ghost use Rattle.std.specs.Prelude.{◌≡◌, ◌+◌, ◌<◌, ℕ, [], Some, None, if◌then◌else◌, nat_lt, IfOk, OnOk, OnErr, IsTrue, IsFalse, ◌≤◌, ◌-◌, length, slice_index_or, option_map, slice_get};
 ghost use Rattle.std.specs.List.Sorted.{IsNonDecreasingBy};
 ghost use Rattle.gw_uses.specs.declared.clock_steps.ClockStep.{ClockStep};
 ghost use Rattle.gw_meaning.specs.Reads.{or_later};
@@ -6,6 +6,7 @@ ghost use Rattle.gw_uses.specs.Parting.{AreUpTo, AreFirst};
 ghost use Rattle.gw_uses.specs.Steps.{first_beyond, below, AreBelow, IsReached};
 
 use gw_nums::Time;
+use gw_shared::Growing;
 use std::alloc::{AllocError, Global};
 use std::marker::Model;
 
@@ -19,7 +20,7 @@ pub struct ClockStep {
 /// The clock steps of a run that set the clock later than all before them, in order.
 #[derive(Drop)]
 pub struct ClockSteps {
-    steps: Vec<ClockStep>,
+    steps: Growing<ClockStep>,
 }
 
 impl Model for ClockSteps {
@@ -29,9 +30,9 @@ impl Model for ClockSteps {
 
     ghost Value = { List ClockStep };
 
-    ghost view = { λ c. c.steps.items };
+    ghost view = { λ c. c.steps };
 
-    ghost invariant = { λ c. AreRising c.steps.items };
+    ghost invariant = { λ c. AreRising c.steps };
 }
 
 impl ClockSteps {
@@ -40,16 +41,24 @@ impl ClockSteps {
         ensures { result ≡ [] }
     {
         ClockSteps {
-            steps: Vec::new(alloc),
+            steps: Growing::new(alloc),
         }
+    }
+
+    /// The same clock steps.
+    pub fn copy(&self) -> Result<ClockSteps, AllocError>
+        ensures { IfOk result (λ c. c ≡ self.now) }
+    {
+        Ok(ClockSteps {
+            steps: self.steps.copy()?,
+        })
     }
 
     /// The first clock step to a time later than this one, if there is one.
     pub fn first_beyond(&self, time: Time) -> Option<u64>
         ensures { result ≡ first_beyond time self.now }
     {
-        let steps = self.steps.as_slice();
-        step_of(steps, count_until(steps, time))
+        step_of(&self.steps, count_until(&self.steps, time))
     }
 
     /// Notes a clock step no earlier in the run than those that are noted. Where memory is refused, nothing
@@ -85,33 +94,54 @@ impl ClockSteps {
         ensures value { (t : ℕ) → first_beyond t self.new ≡ below from (first_beyond t self.old) }
         ensures below { AreBelow from self.new }
     {
-        let count = count_below(self.steps.as_slice(), from);
+        let count = count_below(&self.steps, from);
         self.steps.truncate(count);
     }
 }
 
 // How many of these clock steps are to no time later than this one.
-fn count_until(steps: &[ClockStep], time: Time) -> usize
+fn count_until(steps: &Growing<ClockStep>, time: Time) -> usize
     requires { IsNonDecreasingBy (λ (s : ClockStep). s.time) steps.now }
     ensures { AreUpTo steps.now time result }
 {
-    steps.partition_point(|s| s.time <= time)
+    let (mut low, mut high) = (0, steps.len());
+    while low < high {
+        let middle = low + (high - low) / 2;
+        let s = steps.at(middle);
+        if s.time <= time {
+            low = middle + 1;
+        } else {
+            high = middle;
+        }
+    }
+    low
 }
 
 // How many of these clock steps lie below a step.
-fn count_below(steps: &[ClockStep], step: u64) -> usize
+fn count_below(steps: &Growing<ClockStep>, step: u64) -> usize
     requires { IsNonDecreasingBy (λ (s : ClockStep). s.step) steps.now }
     ensures { AreFirst steps.now step result }
 {
-    steps.partition_point(|s| s.step < step)
+    let (mut low, mut high) = (0, steps.len());
+    while low < high {
+        let middle = low + (high - low) / 2;
+        let s = steps.at(middle);
+        if s.step < step {
+            low = middle + 1;
+        } else {
+            high = middle;
+        }
+    }
+    low
 }
 
 // The step of the clock step at an index.
-fn step_of(steps: &[ClockStep], at: usize) -> Option<u64>
+fn step_of(steps: &Growing<ClockStep>, at: usize) -> Option<u64>
     ensures { result ≡ option_map (λ (s : ClockStep). s.step) (slice_get steps.now at) }
 {
-    match steps.get(at) {
-        Some(found) => Some(found.step),
-        None => None,
+    if at < steps.len() {
+        Some(steps.at(at).step)
+    } else {
+        None
     }
 }

@@ -1,4 +1,4 @@
-ghost use Rattle.std.specs.Prelude.{◌≡◌, ◌<◌, ◌≤◌, ◌^◌, ◌-◌, ◌==◌, ℕ, [], Some, if◌then◌else◌, OnOk, OnErr, get_or, length};
+ghost use Rattle.std.specs.Prelude.{◌≡◌, ◌<◌, ◌≤◌, ◌^◌, ◌-◌, ◌==◌, ℕ, [], Some, if◌then◌else◌, IfOk, OnOk, OnErr, get_or, length};
 ghost use Rattle.gw_meaning.specs.Reads.{or_later};
 ghost use Rattle.gw_uses.specs.Steps.{never, known, step_at, below, IsLeastFrom};
 
@@ -31,6 +31,14 @@ impl FirstSteps {
         FirstSteps {
             steps: Vec::new(alloc),
         }
+    }
+
+    /// The same first steps.
+    pub fn copy(&self) -> Result<FirstSteps, AllocError>
+        ensures { IfOk result (λ f. f ≡ self.now) }
+    {
+        let steps = Vec::from_slice(*self.steps.allocator(), self.steps.as_slice())?;
+        Ok(FirstSteps { steps })
     }
 
     /// The first step that used this number, if any did.

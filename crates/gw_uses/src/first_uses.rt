@@ -1,4 +1,4 @@
-ghost use Rattle.std.specs.Prelude.{◌≡◌, ◌+◌, ◌<◌, ◌-◌, ◌^◌, Some, None, if◌then◌else◌, OnOk, OnErr};
+ghost use Rattle.std.specs.Prelude.{◌≡◌, ◌+◌, ◌<◌, ◌-◌, ◌^◌, Some, None, if◌then◌else◌, IfOk, OnOk, OnErr};
 ghost use Rattle.gw_meaning.specs.declared.item.Item.{Item};
 ghost use Rattle.gw_meaning.specs.declared.item.Item.TheVariants as items;
 ghost use Rattle.gw_meaning.specs.Reads.{or_later, is_use};
@@ -37,6 +37,19 @@ impl FirstUses {
             clock_steps: ClockSteps::new(alloc),
             others: ItemSteps::new(alloc),
         }
+    }
+
+    /// The same first uses.
+    pub fn copy(&self) -> Result<FirstUses, AllocError>
+        ensures { IfOk result (λ f. f ≡ self.now) }
+    {
+        Ok(FirstUses {
+            blocks: self.blocks.copy()?,
+            afters: self.afters.copy()?,
+            commands: self.commands.copy()?,
+            clock_steps: self.clock_steps.copy()?,
+            others: self.others.copy()?,
+        })
     }
 
     /// The first step that used an item, if any did.

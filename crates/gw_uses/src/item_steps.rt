@@ -1,4 +1,4 @@
-ghost use Rattle.std.specs.Prelude.{◌≡◌, ◌<◌, [], Some, None, if◌then◌else◌, OnOk, OnErr, nat_lt, IsTrue, IsSome};
+ghost use Rattle.std.specs.Prelude.{◌≡◌, ◌<◌, [], Some, None, if◌then◌else◌, IfOk, OnOk, OnErr, nat_lt, IsTrue, IsSome};
 ghost use Rattle.gw_meaning.specs.declared.item.Item.{Item};
 ghost use Rattle.gw_meaning.specs.declared.item.Item.TheVariants as items;
 ghost use Rattle.gw_meaning.specs.Reads.{same_item, or_later};
@@ -23,8 +23,9 @@ const APART: u64 = 1_267;
 #[derive(Drop)]
 pub struct ItemSteps {
     steps: IndexMap<Item, u64>,
-    // Where an item was found last, by the mark of its question: it is looked for there first.
-    slots: [u16; SLOTS],
+    // Where an item was found last, by the mark of its question: it is looked for there first. There are none before the
+    // first item is noted.
+    slots: Vec<u16>,
 }
 
 impl Model for ItemSteps {
@@ -48,8 +49,25 @@ impl ItemSteps {
     {
         ItemSteps {
             steps: IndexMap::new(alloc),
-            slots: [0; SLOTS],
+            slots: Vec::new(alloc),
         }
+    }
+
+    /// The same first steps, in the order in which they were noted.
+    pub fn copy(&self) -> Result<ItemSteps, AllocError>
+        ensures { IfOk result (λ m. m ≡ self.now) }
+    {
+        let mut steps = IndexMap::with_capacity(*self.steps.allocator(), self.steps.len())?;
+        for i in 0..self.steps.len() {
+            match self.steps.get_index(i) {
+                Some((item, step)) => {
+                    let _ = steps.insert(item.clone()?, *step)?;
+                }
+                None => unreachable!(),
+            }
+        }
+        let slots = Vec::from_slice(*self.slots.allocator(), self.slots.as_slice())?;
+        Ok(ItemSteps { steps, slots })
     }
 
     /// The first step that used this item, if any did.
@@ -63,7 +81,7 @@ impl ItemSteps {
     }
 
     /// The first step that asked of the storage of this name an amount that two capacities answer in two ways, or the
-    /// capacity where it is another one, if any did. Without a storage before or behind it is any amount.
+    /// capacity where it is another one, if any did. Without a storage before or after it is any amount.
     pub fn first_ask(&self, name: &Name, from: Option<u64>, to: Option<u64>) -> Option<u64>
         ensures least { result ≡ least_in (is_ask name.now from to) self.now }
         ensures apart { IsDistinct same_item (keys_of self.now) }
@@ -88,7 +106,7 @@ impl ItemSteps {
         ensures err { OnErr result (self.new ≡ self.old) }
     {
         let slot = slot_of(mark_without_name(item));
-        if self.is_at(usize::from(self.slots[slot]), item) {
+        if self.is_at(self.place_in(slot), item) {
             return Ok(());
         }
         self.note_at(item, step, slot)
@@ -102,6 +120,9 @@ impl ItemSteps {
             step_of self.new q ≡ or_later (step_of self.old q) (if same_item item.now q then Some step else None)) }
         ensures err { OnErr result (self.new ≡ self.old) }
     {
+        if self.slots.len() < SLOTS {
+            self.slots.resize(SLOTS, 0)?;
+        }
         match self.steps.get_index_of(item) {
             Some(index) => self.slots[slot] = kept(index),
             None => {
@@ -111,6 +132,15 @@ impl ItemSteps {
             }
         }
         Ok(())
+    }
+
+    // Where an item of a slot was found last. Where there are no slots yet, any index will do.
+    #[inline(always)]
+    fn place_in(&self, slot: usize) -> usize {
+        match self.slots.get(slot) {
+            Some(index) => usize::from(*index),
+            None => 0,
+        }
     }
 
     // Whether this item is noted at an index.
@@ -132,7 +162,7 @@ impl ItemSteps {
         ensures err { OnErr result (self.new ≡ self.old) }
     {
         let slot = slot_of(mark_of(asked, name));
-        if self.is_asked_at(usize::from(self.slots[slot]), asked, name) {
+        if self.is_asked_at(self.place_in(slot), asked, name) {
             return Ok(());
         }
         self.note_named(asked, name, step, slot)

@@ -3,8 +3,9 @@ use Rattle.std.proofs.Common.{◌≡◌, ℕ, ℤ, Option, Result, Ok, Err, refl
 use Rattle.gw_expr.specs.declared.halt.Halt.{Halt}
 use Rattle.gw_expr.specs.declared.halt.Halt.TheVariants as halts
 use Rattle.gw_expr.specs.declared.function.Function.{Function}
-use Rattle.gw_expr.specs.Evaluation.{Question, NumberOf, AttributeOf, PartOf, VariableOf, FunctionOf, Reply, Evaluation, Wants, value_of}
-use Rattle.gw_expr.specs.Term.{Term}
+use Rattle.gw_expr.specs.Evaluation.{Question, NumberOf, AttributeOf, PartOf, VariableOf, FunctionOf, Reply, Evaluation, Wants, value_of, value_by, value_of_atom}
+use Rattle.gw_expr.specs.Term.{Term, Value}
+use Rattle.gw_expr.specs.declared.atom.Atom.TheVariants as atoms
 use Rattle.gw_expr.specs.Worlds.{Says, Evaluates, yields, stops, refused, replied, failed}
 use Rattle.gw_meaning.specs.declared.asker.Asker.{Asker}
 use Rattle.gw_expr.specs.declared.halt.End.TheVariants as ends
@@ -25,7 +26,7 @@ abbrev pub Replying : Listing → (question : Question) → Reply question → T
 Replying t question reply = Says (variable_at t) (function_at t) question reply
 
 module _ (t : Listing) (seed : ℕ) (s : Machine) (q : Asker) where
-  -- a question with its reply, and what comes behind it
+  -- a question with its reply, and what comes after it
   reply_goes : {A : Type 0} (question : Question) (k : Reply question → Evaluation A) (reply : Reply question) (r : Result A Halt) (old between new : Noted) →
       Replying t question reply → Replied t seed s q question old (Ok reply) between → Decides t seed (evaluated s q (k reply)) r between new →
       Decides t seed (evaluated s q (Wants question k)) r old new
@@ -100,3 +101,9 @@ pub value_decides : (operand : Term) {r : Result ℤ Halt} {old new : Seen} {not
     Decides old.context.case.version.now old.context.case.seed (value_prog old.context.state.now old.context.asker.now operand) r old.notes.now notes
 unfolding value_prog
 value_decides operand h ends = seen_decides h ends
+
+-- a constant is its value
+pub constant_decides : (t : Listing) (seed : ℕ) (s : Machine) (q : Asker) (v : ℤ) (notes : Noted) →
+    Decides t seed (value_prog s q (Value (atoms.Constant v))) (Ok v) notes notes
+unfolding value_prog value_of value_by value_of_atom
+constant_decides t seed s q v notes = decides_gives t seed v notes

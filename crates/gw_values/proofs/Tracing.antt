@@ -40,7 +40,7 @@ abbrev Trace : Type 0
 Trace = Noted × List Watched
 
 module _ (t : Listing) (seed : ℕ) (s : Machine) (q : Asker) where
-  -- an attribute, and what comes behind it
+  -- an attribute, and what comes after it
   wants_attribute : {A : Type 0} (class : Class) (of : Subject) (k : ℤ → Evaluation A) (read : List Watched) →
       (attribute_traced s q read class of ~> (λ (r : ℤ × List Watched). traced s q r.1 (k r.0))) ≡ traced s q read (Wants (AttributeOf class of) k)
   wants_attribute {A} class of k read =
@@ -50,7 +50,7 @@ module _ (t : Listing) (seed : ℕ) (s : Machine) (q : Asker) where
       ∙ ap (λ (f : List Watched → Eval (A × List Watched)). watched_prog class of ~> f)
       (fun_ext (λ more. then_then (attribute_prog s q class of) (λ v. gives (v, with_all_watched read more)) rest))
 
-  -- a question with its reply, and what comes behind it
+  -- a question with its reply, and what comes after it
   reply_goes : {A : Type 0} (question : Question) (k : Reply question → Evaluation A) (reply : Reply question) (r : Result (A × List Watched) Halt)
       (old between : Trace) (new : Noted) → Replying t question reply → TracedReplied t seed s q question old (Ok reply) between →
       Decides t seed (traced s q between.1 (k reply)) r between.0 new → Decides t seed (traced s q old.1 (Wants question k)) r old.0 new

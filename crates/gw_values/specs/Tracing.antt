@@ -17,7 +17,7 @@ use Rattle.gw_asking.specs.Noted.{Noted}
 use Rattle.gw_values.specs.Seeing.{Replied, IsStill}
 use Rattle.gw_values.specs.declared.traced.Traced.{Traced}
 
--- the value of an attribute, and what it reads behind what was read before
+-- the value of an attribute, and what it reads after what was read before
 abbrev pub attribute_traced : Machine → Asker → List Watched → Class → Subject → Eval (ℤ × List Watched)
 attribute_traced s q read class of = watched_prog class of ~> (λ more. attribute_prog s q class of ~>
     (λ value. gives (value, with_all_watched read more)))

@@ -19,6 +19,7 @@ use std::alloc::AllocError;
 pub const LIVE_LIMIT: usize = 100_000;
 
 // Whether no more transactions may live.
+#[inline(always)]
 fn is_full(state: &State) -> bool
     ensures { result ≡ nat_le 100000 (live state.now) }
 {
@@ -28,6 +29,7 @@ fn is_full(state: &State) -> bool
 /// The next transaction of the GENERATE at `id`: its limit is evaluated, then its time, then its priority. None comes
 /// where the limit is reached. X11 where the limit is below 0, X1 where the time is, X9 where 100,000 transactions
 /// live.
+#[inline(always)]
 pub fn arrival(
     context: Context,
     notes: &mut Notes,
@@ -54,6 +56,7 @@ pub fn arrival(
     arrival_in_time(context, notes, id, mean, range, priority)
 }
 
+#[inline(always)]
 fn arrival_in_time(
     context: Context,
     notes: &mut Notes,
@@ -71,6 +74,7 @@ fn arrival_in_time(
     arrival_at(context.state, id, time, priority)
 }
 
+#[inline(always)]
 fn arrival_at(
     state: &State,
     id: StatementId,
@@ -92,7 +96,7 @@ fn arrival_at(
     }))
 }
 
-/// The first transactions of the GENERATEs at these ids, in order, each behind its offset or its time in ticks. It
+/// The first transactions of the GENERATEs at these ids, in order, each after its offset or its time in ticks. It
 /// stops as [`arrival`] does; a block that is no GENERATE has none.
 pub fn arrivals(
     context: Context,

@@ -43,6 +43,7 @@ pub fn attribute(
 }
 
 // Of the run, or of the transaction that asks.
+#[inline(always)]
 fn own_value(state: &State, asker: &Asker, class: Class) -> Result<Val, Halt>
     ensures { Comes (own_value state.now asker.now class) result }
 {
@@ -62,6 +63,7 @@ fn own_value(state: &State, asker: &Asker, class: Class) -> Result<Val, Halt>
 }
 
 // Of the transaction that asks: its parameter.
+#[inline(always)]
 fn of_parameter(context: Context, notes: &mut Notes, of: &Subject) -> Result<Val, Halt>
     ensures { Decides context.entry.case.version.now context.entry.case.seed
         (subject_prog of.now ~> (λ key. parameter_value context.entry.state.now context.entry.asker.now key))
@@ -72,6 +74,7 @@ fn of_parameter(context: Context, notes: &mut Notes, of: &Subject) -> Result<Val
 }
 
 // The value of a parameter of the transaction that asks.
+#[inline(always)]
 fn parameter(state: &State, asker: &Asker, key: &Key) -> Result<Val, Halt>
     ensures { Comes (parameter_value state.now asker.now key.now) result }
 {
@@ -199,6 +202,7 @@ fn block_value(state: &State, class: Class, id: StatementId) -> Result<Val, Halt
 }
 
 // The value of a parameter, which is to be there.
+#[inline(always)]
 fn value_held(value: Option<Val>) -> Result<Val, Halt>
     ensures { Comes (value_held value) result }
 {
@@ -256,6 +260,7 @@ pub fn key_named(name: &Name, number: Option<Val>) -> Result<Key, Halt>
 }
 
 // The key of the entity with a number, from 1.
+#[inline(always)]
 pub fn key_numbered(number: Val) -> Result<Key, Halt>
     ensures { Comes (numbered number) result }
 {

@@ -18,6 +18,7 @@ pub struct Context<'a> {
 }
 
 /// Who asks: a transaction, with its number, its priority and its mark time, and the termination count that is left.
+#[inline(always)]
 pub fn for_one(state: &State, x: &Transaction) -> Asker
     ensures { result ≡ for_one state.now x.now }
 {
@@ -31,6 +32,7 @@ pub fn for_one(state: &State, x: &Transaction) -> Asker
 }
 
 /// Who asks: no transaction, as for the operands of a GENERATE. P, PR, M1 and XN1 are X5 then.
+#[inline(always)]
 pub fn for_none(remaining: u64) -> Asker
     ensures { result ≡ for_none remaining }
 {

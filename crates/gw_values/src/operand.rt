@@ -1,5 +1,7 @@
 // What operands stand for: values, entities and units.
-ghost use Rattle.std.specs.Prelude.{◌≡◌, [], Some, option_copied};
+ghost use Rattle.std.specs.Prelude.{◌≡◌, [], Some, IfSome, option_copied};
+ghost use Rattle.gw_expr.specs.declared.atom.Atom.TheVariants as atoms;
+ghost use Rattle.gw_expr.specs.Term.{Value};
 ghost use Rattle.gw_expr.specs.Evaluation.{value_of};
 ghost use Rattle.gw_meaning.specs.Evaluation.{value_prog, value_or_zero, value_there, numbered, entity_prog, units_prog, ◌~>◌, gives, traced, value_traced, entity_traced};
 ghost use Rattle.gw_asking.specs.Deciding.{Decides};
@@ -10,13 +12,37 @@ use crate::context::Context;
 use crate::seen::Seen;
 use crate::traced::Traced;
 use gw_asking::{Notes, ask_number};
-use gw_expr::{Expr, Halt, Node, Stop, eval};
+use gw_expr::{Atom, Expr, Halt, Node, Stop, eval};
 use gw_meaning::Watched;
 use gw_names::Key;
 use gw_nums::Val;
 
-// The value of an operand.
+// The value of an operand: that of a constant, as most are, at once.
+#[inline(always)]
 pub fn value(context: Context, notes: &mut Notes, operand: &Expr) -> Result<Val, Halt>
+    ensures { Decides context.entry.case.version.now context.entry.case.seed
+        (value_prog context.entry.state.now context.entry.asker.now operand.now) result notes.old notes.new }
+{
+    match constant(operand) {
+        Some(value) => Ok(value),
+        None => evaluation(context, notes, operand),
+    }
+}
+
+// The value of an operand that is a constant.
+#[inline(always)]
+fn constant(operand: &Expr) -> Option<Val>
+    ensures { IfSome result (λ v. operand.now ≡ Value (atoms.Constant v)) }
+{
+    match operand.node() {
+        Node::Value(Atom::Constant(value)) => Some(*value),
+        _ => None,
+    }
+}
+
+// The value of an operand that is evaluated.
+#[inline(never)]
+fn evaluation(context: Context, notes: &mut Notes, operand: &Expr) -> Result<Val, Halt>
     ensures { Decides context.entry.case.version.now context.entry.case.seed
         (value_prog context.entry.state.now context.entry.asker.now operand.now) result notes.old notes.new }
 {
@@ -26,6 +52,7 @@ pub fn value(context: Context, notes: &mut Notes, operand: &Expr) -> Result<Val,
 
 /// The value of an operand that is there. It stops as its evaluation does, and with X7 where the operand is absent,
 /// which no version that was read lacks.
+#[inline(always)]
 pub fn value_there(context: Context, notes: &mut Notes, operand: Option<&Expr>) -> Result<Val, Halt>
     ensures { Decides context.entry.case.version.now context.entry.case.seed
         (value_there context.entry.state.now context.entry.asker.now (option_copied operand.entry))
@@ -38,6 +65,7 @@ pub fn value_there(context: Context, notes: &mut Notes, operand: Option<&Expr>) 
 }
 
 /// The value of an operand, or 0 where it is absent.
+#[inline(always)]
 pub fn value_or_zero(
     context: Context,
     notes: &mut Notes,
@@ -55,6 +83,7 @@ pub fn value_or_zero(
 
 /// The key of the entity that an operand names: a name's own, or the number that it stands for or that the operand
 /// comes to. X7 where that number is below 1.
+#[inline(always)]
 pub fn key_of(context: Context, notes: &mut Notes, operand: Option<&Expr>) -> Result<Key, Halt>
     ensures { Decides context.entry.case.version.now context.entry.case.seed
         (entity_prog context.entry.state.now context.entry.asker.now (option_copied operand.entry))
@@ -73,6 +102,7 @@ pub fn key_of(context: Context, notes: &mut Notes, operand: Option<&Expr>) -> Re
 }
 
 // The entity whose number is the value of an operand.
+#[inline(always)]
 fn computed_entity(context: Context, notes: &mut Notes, operand: &Expr) -> Result<Key, Halt>
     ensures { Decides context.entry.case.version.now context.entry.case.seed
         (value_prog context.entry.state.now context.entry.asker.now operand.now ~> numbered)
@@ -83,6 +113,7 @@ fn computed_entity(context: Context, notes: &mut Notes, operand: &Expr) -> Resul
 }
 
 /// How many units an operand says, and 1 where it is absent. X11 where it says less than 1.
+#[inline(always)]
 pub fn units_of(context: Context, notes: &mut Notes, operand: Option<&Expr>) -> Result<u32, Halt>
     ensures { Decides context.entry.case.version.now context.entry.case.seed
         (units_prog context.entry.state.now context.entry.asker.now (option_copied operand.entry))
@@ -98,7 +129,7 @@ pub fn units_of(context: Context, notes: &mut Notes, operand: Option<&Expr>) -> 
     Ok(units.magnitude() as u32)
 }
 
-/// The value of an operand that is there. What a block may write of what it reads comes behind what was read before,
+/// The value of an operand that is there. What a block may write of what it reads comes after what was read before,
 /// each thing once.
 pub fn value_traced(
     context: Context,

@@ -12,6 +12,7 @@ use gw_nums::Val;
 
 /// A time in ticks: mean plus or minus range, drawn from stream 1 where the range is above 0, or mean times the
 /// FUNCTION that stands in the place of a range. It may be below 0, as where the range is; X7 where it is no value.
+#[inline(always)]
 pub fn time(
     context: Context,
     notes: &mut Notes,
@@ -29,6 +30,7 @@ pub fn time(
 }
 
 // A time of mean times a FUNCTION: nothing is drawn for a range.
+#[inline(never)]
 fn time_by_function(
     context: Context,
     notes: &mut Notes,
@@ -47,6 +49,7 @@ fn time_by_function(
 }
 
 // A time of mean plus or minus range.
+#[inline(always)]
 fn time_within(
     context: Context,
     notes: &mut Notes,

@@ -145,7 +145,7 @@ fn counts_of(id: Option<StatementId>) -> Option<Watched>
     }
 }
 
-// A thing comes behind the others that were read, unless it is there.
+// A thing comes after the others that were read, unless it is there.
 fn keep(read: &mut Vec<Watched>, thing: Option<Watched>) -> Result<(), AllocError>
     ensures { OnOk result (read.new.items ≡ with_all_watched read.old.items (option_to_list thing)) }
 {
@@ -155,7 +155,7 @@ fn keep(read: &mut Vec<Watched>, thing: Option<Watched>) -> Result<(), AllocErro
     }
 }
 
-/// A thing comes behind the others that were read, unless it is there.
+/// A thing comes after the others that were read, unless it is there.
 pub fn keep_once(read: &mut Vec<Watched>, thing: Watched) -> Result<(), AllocError>
     ensures { OnOk result (read.new.items ≡ with_watched read.old.items thing) }
 {

@@ -8,6 +8,7 @@ use gw_meaning::{Change, Deed, EntityChange, Fate, Move, StatementId, Transactio
 use gw_names::Key;
 
 // It is entered, and no more.
+#[inline(always)]
 pub fn pass(id: StatementId) -> Move
     ensures { result ≡ moves.Enter id changes.Nothing fates.Active }
 {
@@ -15,6 +16,7 @@ pub fn pass(id: StatementId) -> Move
 }
 
 // It is entered, and this becomes of the transaction.
+#[inline(always)]
 pub fn enter_for(id: StatementId, fate: Fate) -> Move
     ensures { result ≡ moves.Enter id changes.Nothing fate }
 {
@@ -26,6 +28,7 @@ pub fn enter_for(id: StatementId, fate: Fate) -> Move
 }
 
 // It changes its transaction.
+#[inline(always)]
 pub fn enter_with(id: StatementId, change: TransactionChange) -> Move
     ensures { result ≡ moves.Enter id (changes.Transaction change) fates.Active }
 {
@@ -37,6 +40,7 @@ pub fn enter_with(id: StatementId, change: TransactionChange) -> Move
 }
 
 // It changes the entity with a key.
+#[inline(always)]
 pub fn enter_doing(id: StatementId, key: Key, deed: Deed) -> Move
     ensures { result ≡ moves.Enter id (changes.Entity (key, deed)) fates.Active }
 {
@@ -48,6 +52,7 @@ pub fn enter_doing(id: StatementId, key: Key, deed: Deed) -> Move
 }
 
 // It brings others.
+#[inline(always)]
 pub fn enter_bringing(id: StatementId, change: Change) -> Move
     ensures { result ≡ moves.Enter id change fates.Active }
 {

@@ -11,6 +11,7 @@ use gw_state::State;
 use gw_values::{Context, time, value_or_zero};
 
 /// ADVANCE: the transaction is held for a time; one of 0 leaves it active. X1 where the time is below 0.
+#[inline(always)]
 pub fn decide_advance(
     context: Context,
     notes: &mut Notes,
@@ -30,6 +31,7 @@ pub fn decide_advance(
 }
 
 // What becomes of a transaction that is held so many ticks.
+#[inline(always)]
 fn delay(state: &State, ticks: u64) -> Fate
     requires { ticks ≤ 1000000000 }
     ensures { result ≡ delay_of state.now ticks }
@@ -43,6 +45,7 @@ fn delay(state: &State, ticks: u64) -> Fate
 }
 
 /// TERMINATE: the transaction is destroyed, and takes A, or 0, from the termination count. X11 where A is below 0.
+#[inline(always)]
 pub fn decide_terminate(
     context: Context,
     notes: &mut Notes,
@@ -62,6 +65,7 @@ pub fn decide_terminate(
 }
 
 /// BUFFER: the transaction lets its equals on the current chain move first.
+#[inline(always)]
 pub fn decide_buffer(id: StatementId) -> Result<Move, Halt>
     ensures { Comes (buffer_prog id) result }
 {

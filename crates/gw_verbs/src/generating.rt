@@ -10,6 +10,7 @@ use gw_values::{Context, arrival, for_none};
 
 /// GENERATE: the transaction comes off it, and the next one is made, if any. X8 where it came from another block; else
 /// it stops as [`gw_values::arrival`] does.
+#[inline(always)]
 pub fn decide_generate(
     context: Context,
     notes: &mut Notes,

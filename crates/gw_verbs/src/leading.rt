@@ -13,6 +13,7 @@ use gw_values::{Context, value_there, value_traced};
 
 /// TEST: the transaction goes on where the relation of two values holds. Else it goes to the block with the label, or,
 /// where no label stands there, waits for a change of what they read.
+#[inline(always)]
 pub fn decide_test(
     context: Context,
     notes: &mut Notes,
@@ -32,6 +33,7 @@ pub fn decide_test(
     }
 }
 
+#[inline(always)]
 fn test_or_lead(
     context: Context,
     notes: &mut Notes,
@@ -53,6 +55,7 @@ fn test_or_lead(
     lead_to(context.case, notes, id, Some(label))
 }
 
+#[inline(always)]
 fn test_or_wait(
     context: Context,
     notes: &mut Notes,
@@ -72,6 +75,7 @@ fn test_or_wait(
 }
 
 // The block is entered, or the transaction waits for a change of what was read.
+#[inline(always)]
 fn pass_or_watch(id: StatementId, passes: bool, read: Vec<Watched>) -> Move
     ensures { Comes (pass_or_wait id None read.items passes) (Ok result) }
 {
@@ -84,6 +88,7 @@ fn pass_or_watch(id: StatementId, passes: bool, read: Vec<Watched>) -> Move
 
 /// TRANSFER: the transaction goes to the block with a label, or on to the next one. A fraction draws from stream 1, and
 /// the far label is taken where what is drawn lies below it.
+#[inline(always)]
 pub fn decide_transfer(
     case: Case,
     notes: &mut Notes,
@@ -105,6 +110,7 @@ pub fn decide_transfer(
     }
 }
 
+#[inline(always)]
 fn by_fraction(
     case: Case,
     notes: &mut Notes,
@@ -121,6 +127,7 @@ fn by_fraction(
 }
 
 // The far operand where the number that was drawn is below the fraction, else the near one.
+#[inline(always)]
 fn chosen<'a>(
     number: u32,
     part: u32,
@@ -138,6 +145,7 @@ fn chosen<'a>(
 }
 
 // Whether the relation of one value to another holds.
+#[inline(always)]
 fn holds(relation: Auxiliary, first: Val, second: Val) -> bool
     ensures { result ≡ holds relation first second }
 {
@@ -153,6 +161,7 @@ fn holds(relation: Auxiliary, first: Val, second: Val) -> bool
 }
 
 // To the block with a label, or to the next block where there is none.
+#[inline(always)]
 pub fn lead_to(
     case: Case,
     notes: &mut Notes,
@@ -174,6 +183,7 @@ pub fn lead_to(
     }
 }
 
+#[inline(always)]
 fn go_to(id: StatementId, to: Option<StatementId>) -> Result<Move, Halt>
     ensures { Comes (go_to id to) result }
 {

@@ -14,6 +14,7 @@ use gw_names::Key;
 use gw_values::{Context, key_of, units_of};
 
 /// LINK: the transaction goes to the back of a user chain by FIFO, to the front by LIFO.
+#[inline(always)]
 pub fn decide_link(
     context: Context,
     notes: &mut Notes,
@@ -39,6 +40,7 @@ pub fn decide_link(
 
 /// UNLINK: so many from the front of a user chain, or all, go to the block with the label, which is asked for only
 /// where somebody goes. X11 where the count is below 1.
+#[inline(always)]
 pub fn decide_unlink(
     context: Context,
     notes: &mut Notes,
@@ -58,6 +60,7 @@ pub fn decide_unlink(
 }
 
 // How many leave of so many: all, or no more than the count says.
+#[inline(always)]
 fn leaving(
     context: Context,
     notes: &mut Notes,
@@ -75,6 +78,7 @@ fn leaving(
     Ok(u64::from(units).min(there))
 }
 
+#[inline(always)]
 fn link_to(id: StatementId, key: Key, discipline: Discipline) -> Move
     ensures { result ≡ moves.Enter id changes.Nothing (fates.Linked key discipline) }
 {
@@ -82,6 +86,7 @@ fn link_to(id: StatementId, key: Key, discipline: Discipline) -> Move
 }
 
 // A label is looked up only where somebody goes there.
+#[inline(always)]
 fn unlink_count(
     case: Case,
     notes: &mut Notes,
@@ -108,6 +113,7 @@ fn unlink_count(
     }
 }
 
+#[inline(always)]
 fn unlink_to(id: StatementId, key: Key, count: u64, to: Option<StatementId>) -> Result<Move, Halt>
     ensures { Comes (unlink_to id key count to) result }
 {
@@ -117,6 +123,7 @@ fn unlink_to(id: StatementId, key: Key, count: u64, to: Option<StatementId>) -> 
     }
 }
 
+#[inline(always)]
 fn unlink_some(id: StatementId, key: Key, count: u64, to: Destination) -> Move
     ensures { Comes (unlink_some id key count to) (Ok result) }
 {

@@ -14,6 +14,7 @@ use gw_values::{Context, key_of, value_there};
 
 /// ASSIGN: a parameter is set, or B is added to it or taken from it; an absent one counts as 0 then. X7 where what
 /// comes of it is no value.
+#[inline(always)]
 pub fn decide_assign(
     context: Context,
     notes: &mut Notes,
@@ -34,6 +35,7 @@ pub fn decide_assign(
 
 /// LOOP: a parameter loses 1, and the transaction goes to the block with the label while it is not 0. X5 where it is
 /// absent, X7 where what is left is no value.
+#[inline(always)]
 pub fn decide_loop(
     context: Context,
     notes: &mut Notes,
@@ -50,6 +52,7 @@ pub fn decide_loop(
     loop_with(context.case, notes, id, key, left, label)
 }
 
+#[inline(always)]
 fn assign_with(
     id: StatementId,
     sign: Auxiliary,
@@ -64,6 +67,7 @@ fn assign_with(
 }
 
 // What a value makes of a parameter or a savevalue, by the sign before it.
+#[inline(always)]
 pub fn by_sign(sign: Auxiliary, was: Option<Val>, value: Val) -> Result<Val, ArithmeticFault>
     ensures { result ≡ by_sign sign was value }
 {
@@ -74,6 +78,7 @@ pub fn by_sign(sign: Auxiliary, was: Option<Val>, value: Val) -> Result<Val, Ari
     }
 }
 
+#[inline(always)]
 fn or_zero(value: Option<Val>) -> Val
     ensures { result ≡ or_zero value }
 {
@@ -84,6 +89,7 @@ fn or_zero(value: Option<Val>) -> Val
 }
 
 // What a LOOP leaves of a parameter.
+#[inline(always)]
 fn left_of(was: Option<Val>) -> Result<Val, Halt>
     ensures { Comes (left_of was) result }
 {
@@ -93,6 +99,7 @@ fn left_of(was: Option<Val>) -> Result<Val, Halt>
     }
 }
 
+#[inline(always)]
 fn one() -> Val
     ensures { result ≡ pos 1 }
 {
@@ -103,6 +110,7 @@ fn one() -> Val
 }
 
 // At 0 the transaction goes on to the next block, else back to the one with the label.
+#[inline(always)]
 fn loop_with(
     case: Case,
     notes: &mut Notes,
@@ -121,6 +129,7 @@ fn loop_with(
     loop_to(case, notes, id, key, left, label)
 }
 
+#[inline(always)]
 fn loop_to(
     case: Case,
     notes: &mut Notes,
@@ -144,6 +153,7 @@ fn loop_to(
     }
 }
 
+#[inline(always)]
 fn loop_back(id: StatementId, key: Key, left: Val, to: Option<StatementId>) -> Result<Move, Halt>
     ensures { Comes (loop_back id key left to) result }
 {
@@ -154,6 +164,7 @@ fn loop_back(id: StatementId, key: Key, left: Val, to: Option<StatementId>) -> R
 }
 
 // What an operator comes to.
+#[inline(always)]
 pub fn arithmetic(found: Result<Val, ArithmeticFault>) -> Result<Val, Halt>
     ensures { Comes (arithmetic found) result }
 {

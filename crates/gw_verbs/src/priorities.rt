@@ -10,6 +10,7 @@ use gw_meaning::{Move, StatementId, TransactionChange};
 use gw_values::{Context, value_there};
 
 /// PRIORITY: the transaction gets another priority, and stays active.
+#[inline(always)]
 pub fn decide_priority(
     context: Context,
     notes: &mut Notes,
@@ -25,6 +26,7 @@ pub fn decide_priority(
 }
 
 /// MARK: the transaction is marked with the absolute clock.
+#[inline(always)]
 pub fn decide_mark(id: StatementId) -> Result<Move, Halt>
     ensures { Comes (mark_prog id) result }
 {

@@ -12,6 +12,7 @@ use gw_names::Key;
 use gw_values::{Context, key_of, units_of};
 
 /// QUEUE: units come to a queue. X12 where its content or its entries would be above 1,000,000,000.
+#[inline(always)]
 pub fn decide_queue(
     context: Context,
     notes: &mut Notes,
@@ -31,6 +32,7 @@ pub fn decide_queue(
 
 /// DEPART: units leave a queue, as zero entries where the transaction came in this tick. X4 where fewer are there, X12
 /// where the zero entries would be above 1,000,000,000.
+#[inline(always)]
 pub fn decide_depart(
     context: Context,
     notes: &mut Notes,
@@ -51,6 +53,7 @@ pub fn decide_depart(
 }
 
 // So many units come, unless a count would be too great.
+#[inline(always)]
 fn queue_units(id: StatementId, key: Key, line: Queue, units: u64) -> Result<Move, Halt>
     ensures { Comes (queue_units id key line units) result }
 {
@@ -63,6 +66,7 @@ fn queue_units(id: StatementId, key: Key, line: Queue, units: u64) -> Result<Mov
 }
 
 // So many units leave, unless a count would be too great or fewer are there.
+#[inline(always)]
 fn depart_units(
     id: StatementId,
     key: Key,
@@ -83,6 +87,7 @@ fn depart_units(
 }
 
 // Whether a content or a count of entries is beyond what it may be.
+#[inline(always)]
 pub fn is_too_many(count: u64) -> bool
     ensures { result ≡ is_too_many count }
 {

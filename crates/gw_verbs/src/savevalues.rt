@@ -14,6 +14,7 @@ use gw_values::{Context, key_of, value_there};
 
 /// SAVEVALUE: a savevalue is set to the value of B, or that is added to it or taken from it. X7 where what comes of it
 /// is no value.
+#[inline(always)]
 pub fn decide_savevalue(
     context: Context,
     notes: &mut Notes,
@@ -32,6 +33,7 @@ pub fn decide_savevalue(
     savevalue_with(id, sign, key, was, value)
 }
 
+#[inline(always)]
 fn savevalue_with(
     id: StatementId,
     sign: Auxiliary,

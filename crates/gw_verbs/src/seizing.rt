@@ -13,6 +13,7 @@ use gw_state::State;
 use gw_values::{Context, key_of};
 
 /// SEIZE: a facility is taken, or waited for where it is owned, also by the transaction itself.
+#[inline(always)]
 pub fn decide_seize(
     context: Context,
     notes: &mut Notes,
@@ -29,6 +30,7 @@ pub fn decide_seize(
 }
 
 /// RELEASE: the owner gives a facility back, to the first that waits for it. X2 where the transaction does not own it.
+#[inline(always)]
 pub fn decide_release(
     context: Context,
     notes: &mut Notes,
@@ -47,6 +49,7 @@ pub fn decide_release(
 }
 
 // The number of the first that waits for a facility.
+#[inline(always)]
 fn first_waiting(state: &State, key: &Key) -> Option<u64>
     ensures { result ≡ first_number (delay_at state.now.delays key.now) }
 {
@@ -56,6 +59,7 @@ fn first_waiting(state: &State, key: &Key) -> Option<u64>
     }
 }
 
+#[inline(always)]
 fn seize_or_wait(id: StatementId, key: Key, owned: bool) -> Result<Move, Halt>
     ensures { Comes (seize_or_wait id key owned) result }
 {
@@ -65,6 +69,7 @@ fn seize_or_wait(id: StatementId, key: Key, owned: bool) -> Result<Move, Halt>
     Ok(enter_doing(id, key, Deed::Facility(FacilityDeed::Seize)))
 }
 
+#[inline(always)]
 fn release_to(id: StatementId, key: Key, owns: bool, next: Option<u64>) -> Result<Move, Halt>
     ensures { Comes (release_to id key owns next) result }
 {
@@ -76,6 +81,7 @@ fn release_to(id: StatementId, key: Key, owns: bool, next: Option<u64>) -> Resul
 }
 
 // Whether the transaction with a number owns it.
+#[inline(always)]
 fn is_owner(owner: Option<u64>, number: u64) -> bool
     ensures { result ≡ is_owner owner number }
 {

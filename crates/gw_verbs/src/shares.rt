@@ -11,6 +11,7 @@ use gw_expr::{Halt, Row};
 use gw_names::Name;
 
 // So many units beside those in use, 2^64 - 1 at most.
+#[inline(always)]
 pub fn beside(units: u64, content: u64) -> u64
     ensures { result ≡ beside units content }
 {
@@ -19,6 +20,7 @@ pub fn beside(units: u64, content: u64) -> u64
 
 // Each of a delay chain, where there is one, is let in from the front where its units fit beside those that are in use by
 // then.
+#[inline(always)]
 pub fn shares_of(
     case: Case,
     notes: &mut Notes,
@@ -35,6 +37,7 @@ pub fn shares_of(
     }
 }
 
+#[inline(always)]
 fn shares_of_chain(
     case: Case,
     notes: &mut Notes,
@@ -58,7 +61,8 @@ fn shares_of_chain(
     Ok(Row::from_vec(shares))
 }
 
-// The units in use behind one who is let in where its units fit.
+// The units in use after one who is let in where its units fit.
+#[inline(always)]
 fn in_use(content: u64, units: u64, fits: bool) -> u64
     ensures { result ≡ in_use content units fits }
 {
@@ -70,6 +74,7 @@ fn in_use(content: u64, units: u64, fits: bool) -> u64
 }
 
 // The units with which one is let in, where they fit.
+#[inline(always)]
 fn share_of(units: u64, fits: bool) -> Option<u64>
     ensures { result ≡ share_of units fits }
 {
@@ -77,6 +82,7 @@ fn share_of(units: u64, fits: bool) -> Option<u64>
 }
 
 // The units of those who are let in, 2^64 - 1 at most.
+#[inline(always)]
 pub fn all_shares(shares: &[Option<u64>]) -> u64
     ensures { result ≡ capped (all_shares shares.now) }
 {

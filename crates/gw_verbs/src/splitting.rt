@@ -14,6 +14,7 @@ use gw_values::{Context, LIVE_LIMIT, value_there};
 
 /// SPLIT: as many copies are made as A says. They go to the block with the label, or on from their own. X11 where A is
 /// below 0, X9 where more than 100,000 transactions would live.
+#[inline(always)]
 pub fn decide_split(
     context: Context,
     notes: &mut Notes,
@@ -29,6 +30,7 @@ pub fn decide_split(
     split_value(context, notes, id, label, copies)
 }
 
+#[inline(always)]
 fn split_value(
     context: Context,
     notes: &mut Notes,
@@ -50,6 +52,7 @@ fn split_value(
 }
 
 // Whether so many more may not live.
+#[inline(always)]
 fn is_too_full(state: &State, count: u64) -> bool
     ensures { result ≡ nat_lt 100000 (live state.now + count) }
 {
@@ -57,6 +60,7 @@ fn is_too_full(state: &State, count: u64) -> bool
 }
 
 // A label is looked up only where a copy goes there.
+#[inline(always)]
 fn split_count(
     case: Case,
     notes: &mut Notes,
@@ -82,6 +86,7 @@ fn split_count(
     }
 }
 
+#[inline(always)]
 fn split_to(id: StatementId, count: u64, to: Option<StatementId>) -> Result<Move, Halt>
     ensures { Comes (split_to id count to) result }
 {
@@ -91,6 +96,7 @@ fn split_to(id: StatementId, count: u64, to: Option<StatementId>) -> Result<Move
     }
 }
 
+#[inline(always)]
 fn split_into(id: StatementId, count: u64, to: Destination) -> Move
     ensures { Comes (split_into id count to) (Ok result) }
 {

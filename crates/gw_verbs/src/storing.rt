@@ -16,6 +16,7 @@ use gw_values::{Context, units_of};
 
 /// ENTER: units of a storage come into use, whoever waits, or are waited for where they do not fit. X12 where the
 /// storage has fewer, or its entries would be above 1,000,000,000.
+#[inline(always)]
 pub fn decide_enter(
     context: Context,
     notes: &mut Notes,
@@ -38,6 +39,7 @@ pub fn decide_enter(
 
 // An ENTER of the storage with this name: it is asked whether the empty storage holds the units, and then whether
 // they fit beside those in use.
+#[inline(always)]
 fn enter_defined(
     context: Context,
     notes: &mut Notes,
@@ -57,6 +59,7 @@ fn enter_defined(
 
 /// LEAVE: units of a storage are given back, and those of its delay chain whose units fit by then are let in, from the
 /// front. X3 where fewer are in use, X12 where the entries would be above 1,000,000,000.
+#[inline(always)]
 pub fn decide_leave(
     context: Context,
     notes: &mut Notes,
@@ -78,6 +81,7 @@ pub fn decide_leave(
 }
 
 // A LEAVE of the storage with this name.
+#[inline(always)]
 fn leave_defined(
     context: Context,
     notes: &mut Notes,
@@ -95,6 +99,7 @@ fn leave_defined(
 }
 
 // No more units are given back than are in use.
+#[inline(always)]
 fn leave_units(
     context: Context,
     notes: &mut Notes,
@@ -116,6 +121,7 @@ fn leave_units(
 }
 
 // The units are more than the storage has, or it is asked whether they fit beside those in use.
+#[inline(always)]
 fn enter_storage(
     case: Case,
     notes: &mut Notes,
@@ -137,6 +143,7 @@ fn enter_storage(
 }
 
 // Units that fit come into use, whoever waits, unless a count would be too great; else the transaction waits.
+#[inline(always)]
 fn enter_or_wait(
     id: StatementId,
     key: Key,
@@ -157,6 +164,7 @@ fn enter_or_wait(
 }
 
 // Units are given back, and those who have a share are let in, unless a count would be too great.
+#[inline(always)]
 fn leave_for(
     id: StatementId,
     key: Key,

@@ -10,6 +10,7 @@ use gw_meaning::{Auxiliary, Deed, Move, StatementId, Switching};
 use gw_values::{Context, key_of};
 
 /// LOGIC: a switch is set, reset or inverted, as the operator says.
+#[inline(always)]
 pub fn decide_logic(
     context: Context,
     notes: &mut Notes,
@@ -30,6 +31,7 @@ pub fn decide_logic(
 }
 
 // What a LOGIC makes of a switch.
+#[inline(always)]
 fn switched(switching: Switching, was: bool) -> bool
     ensures { result ≡ switched switching was }
 {

@@ -12,6 +12,7 @@ use gw_names::{Key, Name};
 use gw_values::{Context, value_there};
 
 /// TABULATE: the argument of a table is evaluated for the transaction, and its value comes to the table's others.
+#[inline(always)]
 pub fn decide_tabulate(
     context: Context,
     notes: &mut Notes,
@@ -34,6 +35,7 @@ pub fn decide_tabulate(
     }
 }
 
+#[inline(always)]
 fn tabulate_with(
     context: Context,
     notes: &mut Notes,

@@ -7,11 +7,11 @@ use Rattle.gw_io.proofs.Faults.{behind, out_of_memory}
 use Rattle.gw_io.proofs.History.{still}
 use Rattle.gw_io.proofs.line.read_line.Goals as goal
 
--- nothing behind a part of a line is a part of it
+-- nothing after a part of a line is a part of it
 with_nothing : (x : List ℕ) → IsUnended x → (y : List ℕ) → y ≡ [] → IsUnended (x ++ y)
 with_nothing x h y e = rw (e, append-nil) h
 
--- a byte that is no line feed behind a part of a line
+-- a byte that is no line feed after a part of a line
 with_byte : (x : List ℕ) (b : ℕ) → IsUnended x → b ≢ 10 → IsUnended (x ++ b ∷ [])
 with_byte x b h e = grind (arith, elements)
 

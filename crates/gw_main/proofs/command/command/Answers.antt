@@ -20,4 +20,5 @@ returns c =
     let two = c.in_ok-arg-2.ensures.shape c.option.ensures.local ∙ ap₂ with_rule one c.option.ensures.rule in
     let three = c.in_ok-arg-3.ensures.shape c.option-2.ensures.local ∙ ap₂ with_rule two c.option-2.ensures.rule in
     let four = c.in_ok-arg-4.ensures.shape c.option-3.ensures.local ∙ ap₂ with_rule three c.option-3.ensures.rule in
-    IfOk-weaker c.arg-5.result _ _ (λ r h. h.shape c.option-4.ensures.local ∙ ap₂ with_rule four c.option-4.ensures.rule) c.arg-5.ensures
+    let five = c.in_ok-arg-5.ensures.shape c.option-4.ensures.local ∙ ap₂ with_rule four c.option-4.ensures.rule in
+    IfOk-weaker c.arg-6.result _ _ (λ r h. h.shape c.option-5.ensures.local ∙ ap₂ with_rule five c.option-5.ensures.rule) c.arg-6.ensures

@@ -20,7 +20,8 @@ returns-in-Ok-options_of g c =
     record {
       taken = at_gpssbench (app_of c.in_ok-command.command) (λ a. fault_of a words ≡ []) c.in_ok-command.ensures c.in-Ok.ensures.kinds;
       model = subst At (c.get_str.ensures ∙ same (codes "model")) c.model_at.ensures;
-      options = says_same (first_value (found_of c.in-Ok.matches)) (word_of words) c.in-Ok-options_of.options same c.in-Ok-options_of.ensures.ok;
+      options = says_same (first_value (found_of c.in-Ok.matches)) (word_of words) c.in-Ok-options_of.said.options c.in-Ok-options_of.said.workers same
+          c.in-Ok-options_of.ensures.ok;
     }
 
 pub returns : goal.returns

@@ -1,4 +1,4 @@
-use Rattle.std.proofs.Common.{◌≡◌, ◌∙◌, Ok, Err, ap, rules}
+use Rattle.std.proofs.Common.{◌≡◌, ◌∙◌, Err, Ok, ap, rules}
 use Rattle.gw_meaning.specs.Step.{step}
 use Rattle.gw_asking.specs.Noted.{Noted}
 use Rattle.gw_expr.specs.declared.halt.Halt.TheVariants as halts
@@ -11,7 +11,8 @@ returns-in-Ok c =
     let seed = c.args.seed in
     let s = c.args.state.now in
     let same = ap (λ (n : Noted). n.streams) c.new-notes.ensures ∙ c.streams.ensures in
-    goes_on (step t seed s) _ (foretold t seed s (Ok c.in-Ok.to) c.new-notes.result c.decide-decided.new.notes same c.in-Ok.ensures)
+    let (m, decided, none) = c.in-Ok.ensures in
+    goes_on (step t seed s) _ (foretold t seed s (Ok m) c.new-notes.result c.go_on-decided.new.notes same decided)
 
 pub returns-in-Err-End : goal.returns-in-Err-End
 returns-in-Err-End c =
@@ -20,6 +21,6 @@ returns-in-Err-End c =
     let s = c.args.state.now in
     let same = ap (λ (n : Noted). n.streams) c.new-notes.ensures ∙ c.streams.ensures in
     let end = c.in-Err-End.end in
-    let told : c.decide-decided.result ≡ Err (halts.End end) = search rules in
+    let told : c.go_on-decided.result ≡ Err (halts.End end) = search rules in
     ends_as (step t seed s) end
-    (foretold t seed s (Err (halts.End end)) c.new-notes.result c.decide-decided.new.notes same (rw told at c.decide-decided.ensures))
+    (foretold t seed s (Err (halts.End end)) c.new-notes.result c.go_on-decided.new.notes same (rw told at c.go_on-decided.ensures).0)

@@ -1,4 +1,4 @@
-use Rattle.std.proofs.Common.{subst, sym}
+use Rattle.std.proofs.Common.{refl, subst, sym}
 use Rattle.std.proofs.lemmas.Result.{on_err_weaker}
 use Rattle.gw_edit.specs.declared.fault.EditFault.TheVariants as faults
 use Rattle.gw_desk.specs.declared.play.Event.TheVariants as events
@@ -12,5 +12,5 @@ returns-in-Edit-clause-err g c =
     let old = c.args.keeper.now in
     let e = c.in-Edit.change in
     rw c.in-Edit.is (on_err_weaker c.edit.result (λ same. refuses faults.Memory
-    (subst (λ d. g.D.Keeper.does old (events.Edit e) (replies.Refused faults.Memory) d) (sym same) (g.met.D.Keeper.in_vain old (events.Edit e)))
+    (subst (λ d. g.D.Keeper.does old (events.Edit e) (replies.Refused faults.Memory) d) (sym same) (g.met.D.Keeper.in_vain old (events.Edit e) refl))
     memory_told) c.edit.ensures.err)

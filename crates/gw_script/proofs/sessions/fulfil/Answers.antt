@@ -17,10 +17,10 @@ returns-in_err-send_refused-in-Err-clause-err g c =
     let refused = rw c.untold-untold.ensures at c.in_err-send_refused-in-Err.ensures.err in
     let old = c.args.sink.now in
     let new = c.send_refused.new.sink in
-    let replies = Replies g.D.Keeper.version g.D.Keeper.does c.args.keeper.now c.args.n c.args.request in
+    let replies = Replies g.D.Keeper.version g.D.Keeper.does g.D.Keeper.works c.args.keeper.now c.args.n c.args.request in
     if_err_at exit.result (BreaksOff g.K.Sink.wrote g.K.Sink.failures replies (untold_of c.args.request) c.args.keeper.now old new c.answer.new.keeper)
     p.0 fault p.1 p.2
-    (broken_refused g.K.Sink.wrote g.K.Sink.failures g.met.K.Sink.nothing g.D.Keeper.version g.D.Keeper.does g.met.D.Keeper.in_vain c.args.keeper.now
+    (broken_refused g.K.Sink.wrote g.K.Sink.failures g.met.K.Sink.nothing g.D.Keeper.version g.D.Keeper.does g.D.Keeper.works g.met.D.Keeper.in_vain g.met.D.Keeper.worked_in_vain c.args.keeper.now
     c.answer.new.keeper c.args.n c.args.request old new fault c.in-Err.ensures.err refused)
 
 pub returns-in_ok-send-in-Ok-clause-ok : goal.returns-in_ok-send-in-Ok-clause-ok

@@ -12,7 +12,7 @@ use Rattle.gw_script.proofs.sessions.session_on.Goals as goal
 
 pub lines-init : goal.lines-init
 lines-init g c = record {
-  turned = rw c.new-budget.ensures (turned_none (Answers g.D.Keeper.version g.D.Keeper.does)
+  turned = rw c.new-budget.ensures (turned_none (Answers g.D.Keeper.version g.D.Keeper.does g.D.Keeper.works)
       g.S.Source.took g.K.Sink.wrote c.args.keeper.now c.args.source.now c.args.sink.now (g.met.S.Source.nothing c.args.source.now)
       (g.met.K.Sink.nothing c.args.sink.now));
   reads = refl;
@@ -21,7 +21,7 @@ lines-init g c = record {
 
 pub returns-in_err-line-clause-stops : goal.returns-in_err-line-clause-stops
 returns-in_err-line-clause-stops g c =
-    let answers = Answers g.D.Keeper.version g.D.Keeper.does in
+    let answers = Answers g.D.Keeper.version g.D.Keeper.does g.D.Keeper.works in
     let exit = c.from_residual in
     let p = err_from_is_err_and exit.result exit.ensures.1 in
     let fault = c.in_err-line.field-0.0 in
@@ -33,7 +33,7 @@ returns-in_err-line-clause-stops g c =
 
 pub returns-in_err-reply-in-Whole-clause-stops : goal.returns-in_err-reply-in-Whole-clause-stops
 returns-in_err-reply-in-Whole-clause-stops g c =
-    let answers = Answers g.D.Keeper.version g.D.Keeper.does in
+    let answers = Answers g.D.Keeper.version g.D.Keeper.does g.D.Keeper.works in
     let at = rw c.in-Whole.is at c.in_ok-line.ensures in
     let text = c.in-Whole.line.items in
     let exit = c.from_residual-in_err-reply-in-Whole in
@@ -53,7 +53,7 @@ returns-in_err-reply-in-Whole-clause-stops g c =
 
 pub returns-then-branch-clause-serves : goal.returns-then-branch-clause-serves
 returns-then-branch-clause-serves g c =
-    let answers = Answers g.D.Keeper.version g.D.Keeper.does in
+    let answers = Answers g.D.Keeper.version g.D.Keeper.does g.D.Keeper.works in
     let at = rw c.in-Whole.is at c.in_ok-line.ensures in
     let text = c.in-Whole.line.items in
     let w : c.without_cr.result.now ≡ without_cr_of text = c.without_cr.ensures ∙ ap without_cr_of c.deref.ensures.value in
@@ -76,7 +76,7 @@ lines-preserved g c =
     let q : is_quit (request_of (without_cr_of text)) ≡ false =
     ap (λ l. is_quit (request_of l)) (sym w) ∙ (sym c.in_ok-reply-in-Whole.ensures.quit ∙ c.if-branch.false) in
     record {
-      turned = turned_line (Answers g.D.Keeper.version g.D.Keeper.does)
+      turned = turned_line (Answers g.D.Keeper.version g.D.Keeper.does g.D.Keeper.works)
           g.S.Source.took g.K.Sink.wrote g.met.S.Source.onward g.met.K.Sink.onward text c.lines.invariant.turned at.line at.taken at.spent q r;
       reads = at.uncounted ∙ c.lines.invariant.reads;
       writes = c.in_ok-reply-in-Whole.ensures.same ∙ c.lines.invariant.writes;
@@ -86,14 +86,14 @@ pub returns-in-End-clause-serves : goal.returns-in-End-clause-serves
 returns-in-End-clause-serves g c =
     let at = rw c.in-End.is at c.in_ok-line.ensures in
     let known = c.lines.invariant in
-    serves_last (Answers g.D.Keeper.version g.D.Keeper.does)
+    serves_last (Answers g.D.Keeper.version g.D.Keeper.does g.D.Keeper.works)
     g.S.Source.took g.K.Sink.wrote g.met.S.Source.onward g.met.K.Sink.onward g.S.Source.failures g.K.Sink.failures known.turned g.S.Source.ended [] []
     overs.InputEnd 1 at.taken (g.met.K.Sink.nothing c.lines.sink) (nothing c.lines.keeper (c.lines.n + 1)) (at.line, refl)
     (omega (arith, at.spent)) (at.uncounted ∙ known.reads) known.writes
 
 pub returns-in_err-quit-in-Last-clause-stops : goal.returns-in_err-quit-in-Last-clause-stops
 returns-in_err-quit-in-Last-clause-stops g c =
-    let answers = Answers g.D.Keeper.version g.D.Keeper.does in
+    let answers = Answers g.D.Keeper.version g.D.Keeper.does g.D.Keeper.works in
     let at = rw c.in-Last.is at c.in_ok-line.ensures in
     let text = c.in-Last.line.items in
     let exit = c.from_residual-in_err-quit-in-Last in
@@ -111,7 +111,7 @@ returns-in_err-quit-in-Last-clause-stops g c =
 
 pub returns-in-Last-clause-serves : goal.returns-in-Last-clause-serves
 returns-in-Last-clause-serves g c =
-    let answers = Answers g.D.Keeper.version g.D.Keeper.does in
+    let answers = Answers g.D.Keeper.version g.D.Keeper.does g.D.Keeper.works in
     let at = rw c.in-Last.is at c.in_ok-line.ensures in
     let text = c.in-Last.line.items in
     let r = rw c.deref-in-Last.ensures.value at c.in_ok-quit-in-Last.ensures.ok in

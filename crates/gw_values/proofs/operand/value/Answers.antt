@@ -1,6 +1,8 @@
-use Rattle.std.proofs.Common.{rules}
-use Rattle.gw_values.proofs.Evaluating.{value_decides}
+use Rattle.gw_values.proofs.Evaluating.{constant_decides}
 use Rattle.gw_values.proofs.operand.value.Goals as goal
 
-pub returns : goal.returns
-returns c = value_decides c.args.operand.now c.eval.ensures (search rules)
+pub returns-in-Some : goal.returns-in-Some
+returns-in-Some c =
+    let context = c.args.context in
+    rw c.in-Some.ensures
+    (constant_decides context.case.version.now context.case.seed context.state.now context.asker.now c.in-Some.value c.args.notes.now)

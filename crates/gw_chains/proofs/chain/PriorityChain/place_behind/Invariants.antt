@@ -8,7 +8,7 @@ invariant-loop-low l = record {
   within : l.high ≤ length l.self-inside.transactions.items;
   -- x stands in front of all from high on
   above : lined_up l.x (drop l.high l.self-inside.transactions.items) ≡ l.x ∷ drop l.high l.self-inside.transactions.items;
-  -- and behind all in front of low
+  -- and after all in front of low
   below : lined_up l.x (drop l.low l.self-inside.transactions.items) ≡ l.x ∷ drop l.low l.self-inside.transactions.items →
       lined_up l.x l.self-inside.transactions.items ≡ insert l.self-inside.transactions.items l.low l.x;
 }

@@ -9,7 +9,7 @@ line_up_first-requires-clause-none c =
     let d = c.self.inside in
     rw (← c.self.view_is, keys_are d.keys.keys d.chains.items) c.in_default.ensures.none
 
--- the chain as it is read behind those that were made
+-- the chain as it is read after those that were made
 chain : (c : After-index_mut-chain) → There c.self.inside.keys.keys c.fill.new.chains.items c.in-Some.index
     c.args.key.now c.index_mut-chain.result.now c.self.inside.count
 chain c =

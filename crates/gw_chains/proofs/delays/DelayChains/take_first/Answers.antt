@@ -32,7 +32,7 @@ overflow_sub-self c =
     let long = ap length c.in_ok-x.ensures.items in
     omega (arith, most, long)
 
--- behind the first that is taken
+-- after the first that is taken
 taken : (c : In_ok-x) → Written c.self.inside.keys.keys c.self.inside.chains.items c.in_ok-index.index c.args.key.now
     c.take_first.new.self (c.self.inside.count - 1)
 taken c =

@@ -5,7 +5,7 @@ use Rattle.gw_chains.proofs.FutureLaws.{full_is}
 use Rattle.gw_chains.proofs.Leasts.{leasts_push}
 use Rattle.gw_chains.proofs.future.FutureChain.begin_block.Goals as goal
 
--- what was on the last block is on the full one, and nothing on the one behind it
+-- what was on the last block is on the full one, and nothing on the one after it
 same_full : (c : goal.After-push_reserved-in-Ok) → c.new-in-Ok.result.items ≡ c.self.inside.last.items
 same_full c = c.new-in-Ok.ensures ∙ ap (λ s. s.items) (c.in-Ok.ensures.ok ∙ c.replace-last.ensures.value)
 

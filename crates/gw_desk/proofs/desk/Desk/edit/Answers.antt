@@ -7,13 +7,14 @@ use Rattle.gw_touch.specs.Touching.{touching_of}
 use Rattle.gw_desk.specs.declared.recording.Recording.{Recording}
 use Rattle.gw_desk.specs.Book.{Book}
 use Rattle.gw_desk.specs.Rebasing.{AreRebased}
-use Rattle.gw_desk.proofs.EditLaws.{IsMade, accepts, still_desk, refuses}
+use Rattle.gw_desk.proofs.EditLaws.{IsMade, accepts, still_desk, still_texts, refuses}
 use Rattle.gw_desk.proofs.desk.Desk.edit.Goals as goal
 
 pub returns-in-Err-clause-refused : goal.returns-in-Err-clause-refused
 returns-in-Err-clause-refused c =
     let room : length c.self.inside.edits.items < 4096 = search rules in
     let b : Book = record {
+      opening = c.self.inside.opening;
       version = c.self.inside.version;
       every = c.self.inside.every;
       edits = c.self.inside.edits.items;
@@ -23,7 +24,7 @@ returns-in-Err-clause-refused c =
     } in
     rw (← c.self.view_is) (refuses b c.args.edit c.in-Err.fault room c.in-Err.ensures)
 
--- what holds of a result that is handed on behind another
+-- what holds of a result that is handed on after another
 handed_on : {T U E : Type 0} (r : Result T E) (s : Result U E) (y : U) (P : U → Type 0) → Ok y ≡ result_and r s → IfOk s P → P y
 handed_on (Ok x) (Ok z) y P is h =
     let same : z ≡ y = cc in
@@ -35,6 +36,7 @@ handed_on (Err e) s y P is h = absurd cc
 abbrev before : goal.After-len-2 → Book
 before c =
     record {
+      opening = c.self.inside.opening;
       version = c.self.inside.version;
       every = c.self.inside.every;
       edits = c.self.inside.edits.items;
@@ -47,7 +49,7 @@ is_made : (c : goal.After-len-2) →
 is_made c = record {
   room = search rules;
   made = c.in-Ok.ensures;
-  desk = c.self.invariant;
+  desk = c.self.invariant.0;
   rebased =
       subst (λ xs. AreRebased c.self.inside.version c.args.edit c.in-Ok.new xs c.rebase_all.new.runs.items)
       c.reserve-room.ensures.items (c.rebase_all.ensures.rebased c.args.edit c.in-Ok.new
@@ -60,8 +62,11 @@ is_made c = record {
   more = c.push_reserved.ensures.items ∙ ap (λ (es : List Edit). es ++ c.args.edit ∷ []) c.reserve.ensures.items;
 }
 
+pub invariant_of-self : goal.invariant_of-self
+invariant_of-self c = rw (c.reserve-room.ensures.items, c.reserve.ensures.items) c.self.invariant
+
 pub invariant_of-self-2 : goal.invariant_of-self-2
-invariant_of-self-2 c = still_desk _ _ _ _ _ _ (is_made c) c.numbered.ensures
+invariant_of-self-2 c = (still_desk _ _ _ _ _ _ (is_made c) c.numbered.ensures, tt, still_texts _ _ _ _ _ _ (is_made c) c.self.inside.texts c.self.invariant.2)
 
 pub returns-clause-accepted : goal.returns-clause-accepted
 returns-clause-accepted c = rw (← c.self.view_is) (accepts _ _ _ _ _ _ (is_made c) c.len-2.result (search rules))

@@ -52,7 +52,7 @@ shut c =
 pub returns-in-Ok-clause-answer : goal.returns-in-Ok-clause-answer
 returns-in-Ok-clause-answer c =
     let steps = c.make_steps.ensures.steps in
-    rw (steps.version, steps.edits) at (peeks_answer c.make_steps.new.self c.args.rep c.args.k c.told_by.result c.told_by.ensures (shut c))
+    rw (steps.version, steps.edits) at (peeks_answer c.make_steps.new.self c.args.rep c.args.k c.told_by.result c.told_by.ensures.peeks (shut c))
 
 pub returns-in-Ok-clause-decided : goal.returns-in-Ok-clause-decided
-returns-in-Ok-clause-decided c = λ other. shut c
+returns-in-Ok-clause-decided c = λ other. rw c.told_by.ensures.same (shut c)

@@ -1,15 +1,15 @@
-use Rattle.std.proofs.Common.{arith}
-use Rattle.std.proofs.lemmas.Grind.{common_steps}
+use Rattle.std.proofs.Common.{◌≡◌, Some, sym, subst, ◌∙◌, rules}
+use Rattle.gw_record.specs.Tape.{Tape}
+use Rattle.gw_desk.specs.Book.{run_in}
+use Rattle.gw_desk.specs.Looking.{Sees}
 use Rattle.gw_desk.proofs.desk.Desk.peek.Goals as goal
 
-pub told-requires-clause-run : goal.told-requires-clause-run
-told-requires-clause-run c = grind (arith, common_steps)
-
-pub told-requires-clause-records : goal.told-requires-clause-records
-told-requires-clause-records c = grind (arith, common_steps)
-
-pub told-requires-clause-zero : goal.told-requires-clause-zero
-told-requires-clause-zero c = grind (arith, common_steps)
-
-pub unreachable-requires : goal.unreachable-requires
-unreachable-requires c = grind (arith, common_steps)
+pub seen-requires-clause-sees : goal.seen-requires-clause-sees
+seen-requires-clause-sees c = λ r there.
+    let b = c.args.self.now in
+    let run = c.in-Some-run.run'.now in
+    let looked : Sees b.version c.in-Some.seed c.args.k run c.in-Ok.look = search rules in
+    let found : run_in b.runs c.args.rep ≡ Some run = search rules in
+    let both : Some run ≡ Some r = sym found ∙ there in
+    let same : run ≡ r = cc in
+    subst (λ (x : Tape). Sees b.version c.in-Some.seed c.args.k x c.in-Ok.look) same looked

@@ -8,7 +8,7 @@ use Rattle.gw_entities.proofs.Entries.{pushed_is}
 use Rattle.gw_entities.proofs.Keyed.{no_key_beside, zip_more, apart_beside}
 use Rattle.gw_entities.proofs.tables.Tables.begin.Goals as goal
 
--- the keys and the values behind it
+-- the keys and the values after it
 record Begun (c : goal.After-push_reserved) : Type 0 where
   keys : c.insert.new.self.keys ≡ c.self.inside.keys.keys ++ c.args.key.now ∷ []
   values : c.push_reserved.new.self.items ≡ c.self.inside.values.items ++ (c.args.value ∷ []) ∷ []

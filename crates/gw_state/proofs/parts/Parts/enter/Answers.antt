@@ -56,7 +56,7 @@ returns-clause-ok c =
     let updated : machine_of before ≡ record base { linked = linked_by fate y base.linked; parameters = given_to y } =
     ap (λ (p : Parts). machine_of (record p { counts = c.cross.new.self })) c.update.ensures.rest
     ∙ (λ i. record (is_room i) { entities = entities i; parameters = parameters i; linked = linked i; counts = counts i }) in
-    -- behind what becomes of it
+    -- after what becomes of it
     let v : Machine = fated fate y base in
     let given_last : Held = given change v.active v.next v.parameters in
     let fields : record (fated fate y (record base { linked = linked_by fate y base.linked; parameters = given_to y })) {
@@ -70,7 +70,7 @@ returns-clause-ok c =
     let followed : machine_of c.follow.new.self ≡ record v { parameters = given_last } =
     c.follow.ensures.fated
     ∙ (ap₂ (λ z m. record (fated fate z m) { linked = before.linked; parameters = before.parameters }) is_y updated ∙ fields) in
-    -- behind whom the change brings, and behind those who wake
+    -- after whom the change brings, and after those who wake
     let brought : machine_of c.bring.new.self ≡ entering s x id change fate =
     c.bring.ensures.brought
     ∙ (ap (λ (m : Machine). record (changed change m) { parameters = m.parameters }) followed ∙ brought_is change v) in

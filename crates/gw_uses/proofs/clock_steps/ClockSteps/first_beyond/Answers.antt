@@ -4,6 +4,5 @@ use Rattle.gw_uses.proofs.clock_steps.ClockSteps.first_beyond.Goals as goal
 
 pub returns : goal.returns
 returns c =
-    let until = rw c.as_slice-steps.ensures.value at c.count_until.ensures in
-    let found = rw c.as_slice-steps.ensures.value at c.step_of.ensures in
-    rw (← c.self.view_is) (found ∙ sym (first_beyond_at c.args.time c.self.inside.steps.items _ until.0 until.1))
+    let until = c.count_until.ensures in
+    rw (← c.self.view_is) (c.step_of.ensures ∙ sym (first_beyond_at c.args.time c.self.inside.steps _ until.0 until.1))

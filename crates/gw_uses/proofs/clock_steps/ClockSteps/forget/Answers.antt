@@ -5,12 +5,10 @@ use Rattle.gw_uses.proofs.clock_steps.ClockSteps.forget.Goals as goal
 
 pub returns-clause-value : goal.returns-clause-value
 returns-clause-value c =
-    let point = rw c.as_slice.ensures.value at c.count_below-count.ensures in
+    let point = c.count_below-count.ensures in
     rw (← c.self.view_is) (λ t.
-    let taken = first_beyond_taken t c.args.from c.self.inside.steps.items _ point.0 point.1 in
-    ap (λ xs. first_beyond t xs) c.truncate.ensures.items ∙ taken)
+    ap (λ xs. first_beyond t xs) c.truncate.ensures ∙ first_beyond_taken t c.args.from c.self.inside.steps _ point.0 point.1)
 
 pub returns-clause-below : goal.returns-clause-below
 returns-clause-below c =
-    let point = rw c.as_slice.ensures.value at c.count_below-count.ensures in
-    rw c.truncate.ensures.items (below_taken c.args.from c.self.inside.steps.items c.count_below-count.result point.0)
+    rw c.truncate.ensures (below_taken c.args.from c.self.inside.steps c.count_below-count.result c.count_below-count.ensures.0)

@@ -9,7 +9,7 @@ pub invariant_of-self : goal.invariant_of-self
 invariant_of-self c =
     let below = rw (← c.self.view_is) at c.requires in
     let last = rw (← c.self.view_is) at c.if-goes_beyond.ensures.last in
-    let steps = c.self.inside.steps.items in
+    let steps = c.self.inside.steps in
     let s : ClockStep = record { step = c.args.step; time = c.args.time } in
     let pushed : AreRising (steps ++ s ∷ []) = record {
       in_run = IsNonDecreasingBy-push (λ (r : ClockStep). r.step) steps s c.self.invariant.in_run (λ d some.
@@ -17,10 +17,10 @@ invariant_of-self c =
           omega (arith, h));
       on_clock = IsNonDecreasingBy-push (λ (r : ClockStep). r.time) steps s c.self.invariant.on_clock (λ d some. last refl d some);
     } in
-    subst AreRising (sym c.in_ok-push.ensures.items) pushed
+    subst AreRising (sym c.in_ok-push.ensures.ok) pushed
 
 pub returns-in_ok-push-clause-ok : goal.returns-in_ok-push-clause-ok
-returns-in_ok-push-clause-ok c = rw (← c.self.view_is) (λ t. ap (λ xs. first_beyond t xs) c.in_ok-push.ensures.items ∙ first_beyond_more t _ _)
+returns-in_ok-push-clause-ok c = rw (← c.self.view_is) (λ t. ap (λ xs. first_beyond t xs) c.in_ok-push.ensures.ok ∙ first_beyond_more t _ _)
 
 pub returns-else-goes_beyond-clause-ok : goal.returns-else-goes_beyond-clause-ok
 returns-else-goes_beyond-clause-ok c = λ t. first_beyond_known t c.args.step c.args.time _ (c.if-goes_beyond.ensures.known refl)

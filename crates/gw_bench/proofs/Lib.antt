@@ -1,0 +1,5 @@
+pub mod Fronts
+pub mod Meets
+pub mod Refusals
+pub mod GrowLaws
+pub mod Answered

@@ -1,0 +1,7 @@
+use Rattle.gw_meaning.specs.Step.{mark_prog}
+use Rattle.gw_asking.proofs.Binding.{decides_comes}
+use Rattle.gw_scan.proofs.attempt.mark.Goals as goal
+
+pub returns : goal.returns
+returns c =
+    decides_comes c.args.case.version.now c.args.case.seed (mark_prog c.args.id) c.decide_mark.result c.args.notes.now c.decide_mark.ensures

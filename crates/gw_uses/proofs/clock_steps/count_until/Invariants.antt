@@ -1,0 +1,15 @@
+use Rattle.std.proofs.Common.{◌≡◌, ◌≤◌, ◌-◌, true, false, nat_le, length}
+use Rattle.std.specs.List.{AllWithin}
+use Rattle.gw_uses.specs.declared.clock_steps.ClockStep.{ClockStep}
+use Rattle.gw_uses.proofs.clock_steps.count_until.Given as goal
+
+abbrev pub invariant-loop-low : goal.invariant-loop-low
+invariant-loop-low l = record {
+  order : l.low ≤ l.high;
+  within : l.high ≤ length l.steps;
+  early : AllWithin (λ (s : ClockStep). nat_le s.time l.time ≡ true) l.steps 0 l.low;
+  late : AllWithin (λ (s : ClockStep). nat_le s.time l.time ≡ false) l.steps l.high (length l.steps);
+}
+
+abbrev pub decreases-loop-low : goal.decreases-loop-low
+decreases-loop-low l = l.high - l.low
