@@ -1,7 +1,8 @@
-ghost use Rattle.std.specs.Prelude.{◌≡◌, [], length, map, None, slice_get};
+ghost use Rattle.std.specs.Prelude.{◌≡◌, [], length, map, None, slice_get, unwrap_or};
 ghost use Rattle.std.specs.Prelude.{IfOk, OnOk, OnErr};
 ghost use Rattle.std.specs.Option.{option_map};
-ghost use Rattle.gw_entities.specs.Tables.{value_of, with_value, AreApart};
+ghost use Rattle.gw_names.specs.declared.key.Key.{Key};
+ghost use Rattle.gw_entities.specs.Tables.{value_of, with_value, AreApart, IsPlace};
 
 use crate::counted::Counted;
 use crate::key_set::KeySet;
@@ -61,18 +62,51 @@ impl<V: Copy> ByKey<V> {
         Some(*self.values.at(index))
     }
 
+    /// Where an entity lies, if it was touched.
+    #[inline(always)]
+    pub fn place(&self, key: &Key) -> Option<usize>
+        ensures { IsPlace self.now key.now result }
+    {
+        self.keys.place(key)
+    }
+
+    /// The value of an entity that lies at a place, or another where it was not touched.
+    #[inline(always)]
+    pub fn value_at(&self, place: Option<usize>, other: V) -> V
+        ghost key: { Key }
+        requires { IsPlace self.now key place }
+        ensures { result ≡ unwrap_or (value_of self.now key) other }
+    {
+        match place {
+            Some(index) => *self.values.at(index),
+            None => other,
+        }
+    }
+
+    /// Sets the value of an entity that lies at a place: there, or after the others where it was not touched. Where
+    /// memory is refused, nothing changes.
+    #[inline(always)]
+    pub fn put_at(&mut self, key: &Key, place: Option<usize>, value: V) -> Result<(), AllocError>
+        requires { IsPlace self.old key.now place }
+        ensures ok { OnOk result (self.new ≡ with_value self.old key.now value) }
+        ensures err { OnErr result (self.new ≡ self.old) }
+    {
+        let Some(index) = place else {
+            return self.push(key, value);
+        };
+        self.values.reserve(1)?;
+        self.values.set(index, value);
+        Ok(())
+    }
+
     /// Sets the value of an entity: in place where it has one, else after the others. Where memory is refused, nothing
     /// changes.
     pub fn put(&mut self, key: &Key, value: V) -> Result<(), AllocError>
         ensures ok { OnOk result (self.new ≡ with_value self.old key.now value) }
         ensures err { OnErr result (self.new ≡ self.old) }
     {
-        let Some(index) = self.keys.place(key) else {
-            return self.push(key, value);
-        };
-        self.values.reserve(1)?;
-        self.values.set(index, value);
-        Ok(())
+        let place = self.place(key);
+        self.put_at(key, place, value)
     }
 
     // An entity that has no value comes after the others.

@@ -111,13 +111,16 @@ impl<V: Copy> OwnList<V> {
         ensures last { IfErr result (λ i. i ≤ length self.now.entries) }
     {
         let first = self.first(number);
-        let end = self.end(number, first);
-        for index in first..end {
-            if self.items.at(index).key == key {
+        for index in first..self.items.len() {
+            let item = self.items.at(index);
+            if item.number != number {
+                return Err(index);
+            }
+            if item.key == key {
                 return Ok(index);
             }
         }
-        Err(end)
+        Err(self.items.len())
     }
 
     // Where those of transactions with a number from this on begin.
