@@ -1,4 +1,5 @@
--- What the faults of a bench say.
+-- What a fault of a bench says of the front that its caller has seen: that the row is full, that the version after that
+-- front refuses the edit, or that memory was refused. (Our own.)
 use Rattle.std.specs.Prelude.{◌≡◌, ◌<◌, ℕ, List, [], ◌∷◌, ◌++◌, Ok, Err, length}
 use Rattle.gw_meaning.specs.Listing.{Listing}
 use Rattle.gw_touch.specs.declared.edit.Edit.{Edit}

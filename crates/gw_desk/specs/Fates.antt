@@ -1,4 +1,5 @@
--- The fate of a leg over the edits that were accepted after it was taken. (Our own.)
+-- The fate of a leg over the edits that were accepted after it was taken: its run lives or dies, edit by edit. Why a
+-- leg is dropped. (Our own.)
 use Rattle.std.specs.Prelude.{◌≡◌, ◌⊎◌, ℕ, ◌<◌, ◌≤◌, List, [], ◌∷◌, ◌++◌, Some, None, Ok}
 use Rattle.gw_meaning.specs.Listing.{Listing, seed_at}
 use Rattle.gw_record.specs.Tape.{Tape}

@@ -1,4 +1,5 @@
--- What the recorded steps of a run tell of START k. (Our own.)
+-- What the recorded steps of a run tell of START k: the point of its report, that it has none, or nothing as yet. (Our
+-- own.)
 use Rattle.std.specs.Prelude.{◌≡◌, ℕ, ◌<◌, ◌≤◌, Ok}
 use Rattle.gw_meaning.specs.Listing.{Listing}
 use Rattle.gw_meaning.specs.Machine.{Machine}

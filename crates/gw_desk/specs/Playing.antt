@@ -1,4 +1,5 @@
--- What lists of events come to. (Our own.)
+-- What a list of events comes to, event by event: the reply, the book of the desk after it, and the legs that the
+-- workers have. (Our own.)
 use Rattle.std.specs.Prelude.{◌≡◌, ◌≢◌, ℕ, List, [], ◌∷◌, Option, Some, None, true, false, length}
 use Rattle.gw_touch.specs.declared.edit.Edit.{Edit}
 use Rattle.gw_edit.specs.declared.fault.EditFault.{EditFault}

@@ -1,4 +1,5 @@
--- What a run that is offered leaves of the desk.
+-- What a run that is offered leaves of the desk: the recorded run of its replication adopts it, or nothing changes,
+-- since it does not go on from there. (Our own.)
 use Rattle.std.specs.Prelude.{◌≡◌, ◌≢◌, ◌⊎◌, ℕ, ◌<◌, ◌≤◌, Some}
 use Rattle.gw_record.specs.Tape.{Tape}
 use Rattle.gw_record.specs.Adopting.{Adopts}

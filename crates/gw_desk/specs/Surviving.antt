@@ -1,4 +1,5 @@
--- Whether a leg's run lives.
+-- What later edits leave of a leg's run: what is left of it where it lives through all of them, and nothing where it
+-- dies of one. (Our own.)
 use Rattle.std.specs.Prelude.{◌≡◌, ℕ, Bool, true, false, List, Option, Some, None}
 use Rattle.gw_meaning.specs.Listing.{Listing, seed_at}
 use Rattle.gw_touch.specs.declared.edit.Edit.{Edit}

@@ -1,4 +1,4 @@
--- What becomes of the leg of one worker. (Our own.)
+-- What becomes of the leg of one worker when he takes one, makes steps of it and posts it, with the replies. (Our own.)
 use Rattle.std.specs.Prelude.{ℕ, Option, Some, None}
 use Rattle.gw_desk.specs.declared.play.Reply.{Reply}
 use Rattle.gw_desk.specs.declared.play.Reply.TheVariants as replies

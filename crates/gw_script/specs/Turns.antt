@@ -1,4 +1,5 @@
--- What answering one line leaves. (Our own.)
+-- What answering one line leaves: the whole answer is written, or a front part of it before the fault that ends the
+-- session; and the keeper after either. (Our own.)
 use Rattle.std.specs.Prelude.{◌≡◌, ℕ, Bool, true, false, List, [], ◌++◌, Option, Some, None}
 use Rattle.gw_io.specs.declared.budget.ReadFault.{ReadFault}
 use Rattle.gw_io.specs.declared.budget.ReadFault.TheVariants as reads
