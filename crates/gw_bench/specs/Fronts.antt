@@ -1,4 +1,5 @@
--- What a pass has seen.
+-- What a pass has seen: a front of the row's edits, as they stand in its boxes, and the version to which they lead.
+-- (Our own.)
 use Rattle.std.specs.Prelude.{◌≡◌, ◌<◌, ◌≤◌, ℕ, zero, suc, List, [], ◌∷◌, ◌++◌, length, slice_index}
 use Rattle.std.specs.Prelude.{Option, None, Some, option_to_list}
 use Rattle.once_cell.specs.declared.race.note.Note.{Note}

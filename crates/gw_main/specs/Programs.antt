@@ -1,4 +1,5 @@
--- What a run of the program does, from its words to its status. (Our own.)
+-- What a run of the program does, from its words to its status: it serves a model and a script, writes its help, or
+-- says on standard error why it does neither. (Our own.)
 use Rattle.std.specs.Prelude.{◌≡◌, ℕ, List, Result, Ok, Err, codes}
 use Rattle.std.specs.String.{string_bytes}
 use Rattle.gw_io.specs.Failures.{one_more, WritesPart}
