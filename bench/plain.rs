@@ -4,7 +4,7 @@
 //! one that the workbench gives of that START with its usual options; none where the run does not complete it.
 //!
 //! It is Rattle, as the crates are. A `.rt` file stands in none but a crate that is proved, so this one is called
-//! `.rs`: `bench/unproved` builds it, as a crate beside the others.
+//! `.rs`: `dev/unproved` builds it, as a crate beside the others.
 #![tactic(auto)]
 
 use gw_expr::End;

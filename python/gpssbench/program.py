@@ -11,13 +11,13 @@ ROOT = os.path.dirname(os.path.dirname(os.path.dirname(os.path.realpath(__file__
 
 
 def program() -> str:
-    """Where the program is: $GPSSBENCH, the one that `bench/unproved --keep gpssbench` or the gate built in the clone,
+    """Where the program is: $GPSSBENCH, the one that `dev/unproved --keep gpssbench` or the gate built in the clone,
     or the one in a folder of PATH."""
     built = os.path.join(ROOT, "crates", "gw_main", "out", "gw_main")
     for path in (os.environ.get("GPSSBENCH"), os.path.join(ROOT, "gpssbench"), built, shutil.which("gpssbench")):
         if path and os.path.isfile(path):
             return os.path.abspath(path)
-    raise Problem("no program: `bench/unproved --keep gpssbench` in the repository's root builds one")
+    raise Problem("no program: `dev/unproved --keep gpssbench` in the repository's root builds one")
 
 
 @dataclass

@@ -1,4 +1,4 @@
-"""How bench/oracle.py reads statements: the label, the verb and the operands of a line, or the first fault in it."""
+"""How tests/oracle.py reads statements: the label, the verb and the operands of a line, or the first fault in it."""
 import re
 
 BLOCKS = (
