@@ -87,7 +87,7 @@ impl Leg {
     }
 
     /// A leg keeps this by its type, that its run is the record of its version's run: a law, which does nothing.
-    pub fn is_leg(&self)
+    pub(crate) fn is_leg(&self)
         ensures { IsLeg self.now }
     {
         let _ = &self.run;

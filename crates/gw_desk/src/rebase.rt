@@ -15,7 +15,7 @@ use gw_record::Recorded;
 use std::alloc::Global;
 
 // The recorded runs after an edit of a version, by what the edit touches.
-pub fn rebase_all(runs: &mut Vec<Recording>, old: &Version, touch: &Touch)
+pub(crate) fn rebase_all(runs: &mut Vec<Recording>, old: &Version, touch: &Touch)
     ensures rebased { (e : Edit) (u : Listing) → touch.now ≡ touching_of old.now e u →
         AreRebased old.now e u runs.old.items runs.new.items }
     ensures len { vec_len runs.new ≡ vec_len runs.old }
@@ -28,7 +28,7 @@ pub fn rebase_all(runs: &mut Vec<Recording>, old: &Version, touch: &Touch)
 }
 
 // Runs of no steps for the replications that have none.
-pub fn add_missing(
+pub(crate) fn add_missing(
     runs: &mut Vec<Recording>,
     alloc: Global,
     replications: &[Replication],
@@ -61,7 +61,7 @@ fn add_if_missing(runs: &mut Vec<Recording>, alloc: Global, number: u64, every: 
 }
 
 // Those runs alone whose replications a version has.
-pub fn keep_those_of(runs: &mut Vec<Recording>, version: &Version)
+pub(crate) fn keep_those_of(runs: &mut Vec<Recording>, version: &Version)
     ensures { runs.new.items ≡ filter (λ (r : Recording). is_some (seed_at version.now r.number)) runs.old.items }
 {
     runs.retain(|recording| version.seed(recording.number).is_some());

@@ -33,7 +33,7 @@ pub fn blank_runs(
 }
 
 // The recorded run of the replication with this number.
-pub fn run_of(runs: &[Recording], number: u64) -> Option<&Recorded>
+pub(crate) fn run_of(runs: &[Recording], number: u64) -> Option<&Recorded>
     ensures { option_copied result ≡ run_in runs.now number }
 {
     for recording in runs {

@@ -34,7 +34,7 @@ fn pass(
 }
 
 // Brings it through later edits.
-pub fn survives(
+pub(crate) fn survives(
     alloc: Global,
     version: &mut Version,
     later: &[Edit],

@@ -22,7 +22,7 @@ pub fn reseeded(
 }
 
 /// The replications and one more after them.
-pub fn with_replication(
+pub(crate) fn with_replication(
     alloc: Global,
     version: &Version,
     number: u64,

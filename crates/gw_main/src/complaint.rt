@@ -10,7 +10,7 @@ use std::alloc::{AllocError, Global};
 
 /// Tells standard error of a fault, as far as it takes that, and returns the fault that was told: out of memory, where
 /// there was none for the text of a faulty line.
-pub fn complain<E: Sink>(alloc: Global, fault: Fault, errors: &mut E) -> Fault
+pub(crate) fn complain<E: Sink>(alloc: Global, fault: Fault, errors: &mut E) -> Fault
     ensures told { IsToldAs fault result }
     ensures text { Tells E.wrote E.failures (complaint_of result) errors.old errors.new }
 {
@@ -34,7 +34,7 @@ pub fn complain<E: Sink>(alloc: Global, fault: Fault, errors: &mut E) -> Fault
 }
 
 /// Tells standard error a line, as far as it takes that.
-pub fn say<E: Sink>(errors: &mut E, text: &[u8])
+pub(crate) fn say<E: Sink>(errors: &mut E, text: &[u8])
     ensures { Tells E.wrote E.failures text.now errors.old errors.new }
 {
     let _ = gw_io::write_all(errors, text);
@@ -68,7 +68,7 @@ fn model_text(fault: ModelFault) -> &'static [u8]
 }
 
 /// The status of the program after a fault: 1 for a refused model, 3 for the rest.
-pub fn status(fault: &Fault) -> u8
+pub(crate) fn status(fault: &Fault) -> u8
     ensures { result ≡ status_of fault.now }
 {
     match fault {

@@ -12,7 +12,7 @@ use std::thread::Threads;
 
 /// Takes the model off the reader, up to its line `end`, and answers the script that stands after it, beside so many
 /// workers.
-pub fn converse<R: Threads + Wait + Sync, S: Source, K: Sink>(
+pub(crate) fn converse<R: Threads + Wait + Sync, S: Source, K: Sink>(
     rt: &R,
     alloc: Global,
     workers: u64,
@@ -33,7 +33,7 @@ pub fn converse<R: Threads + Wait + Sync, S: Source, K: Sink>(
 
 /// Takes all of the model from the file that was opened, if it was, and answers the script that stands on the reader,
 /// beside so many workers.
-pub fn converse_over_file<R: Threads + Wait + Sync, F: Source + Drop, S: Source, K: Sink>(
+pub(crate) fn converse_over_file<R: Threads + Wait + Sync, F: Source + Drop, S: Source, K: Sink>(
     rt: &R,
     alloc: Global,
     workers: u64,

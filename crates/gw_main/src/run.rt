@@ -72,7 +72,7 @@ pub fn not_begun<E: Sink>(error: ErrorKind, errors: &mut E) -> u8
 }
 
 /// Why a file could not be opened: out of memory, or as one that cannot be read.
-pub fn not_opened(error: ErrorKind) -> ReadFault
+pub(crate) fn not_opened(error: ErrorKind) -> ReadFault
     ensures memory { error ≡ ErrorKind.OutOfMemory → result ≡ Memory }
     ensures others { error ≢ ErrorKind.OutOfMemory → result ≡ Read }
 {

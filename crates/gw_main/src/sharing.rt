@@ -19,7 +19,7 @@ use std::thread::{Threads, join_mut};
 
 /// Opens a model and answers a script over it: alone, or beside so many workers. Where the model is refused, or memory
 /// for the bench that workers want, nothing is read or written.
-pub fn session_with<R: Threads + Wait + Sync, S: Source, K: Sink>(
+pub(crate) fn session_with<R: Threads + Wait + Sync, S: Source, K: Sink>(
     rt: &R,
     alloc: Global,
     workers: u64,

@@ -21,7 +21,7 @@ pub fn count_until(kept: &[Kept], moment: u64) -> usize
 }
 
 // How many of these moments lie before one.
-pub fn count_before(moments: &[u64], moment: u64) -> usize
+pub(crate) fn count_before(moments: &[u64], moment: u64) -> usize
     ensures bound { result ≤ length moments.now }
     ensures parts { AreMoments moments.now → AreBefore moments.now moment result }
 {
@@ -29,7 +29,7 @@ pub fn count_before(moments: &[u64], moment: u64) -> usize
 }
 
 // The state that is kept of a moment.
-pub fn state_in(kept: &[Kept], moment: u64) -> Option<&State>
+pub(crate) fn state_in(kept: &[Kept], moment: u64) -> Option<&State>
     ensures found { IfSome result (λ s. IsStateIn kept.now moment s.now) }
     ensures none { IfNone result (AreInOrder kept.now → IsThere kept.now moment → ⊥) }
 {

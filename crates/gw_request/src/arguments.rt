@@ -13,7 +13,7 @@ use gw_touch::Edit;
 use std::alloc::{AllocError, Global};
 
 // What a command asks for, where the words after it are those that it takes.
-pub fn read_arguments(
+pub(crate) fn read_arguments(
     alloc: Global,
     command: Command,
     words: Option<&[u8]>,

@@ -9,7 +9,7 @@ fn is_blank(byte: u8) -> bool
     byte == b' ' || byte == b'\t'
 }
 
-pub fn is_all_blank(line: &[u8]) -> bool
+pub(crate) fn is_all_blank(line: &[u8]) -> bool
     ensures { result ≡ list_all is_blank line.now }
 {
     line.iter().all(|b| is_blank(*b))

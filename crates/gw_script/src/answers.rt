@@ -10,7 +10,7 @@ use std::alloc::{AllocError, Global};
 const HEADING: usize = 91;
 
 /// The bytes of an answer.
-pub fn answer_bytes(alloc: Global, answer: &Answer) -> Result<Vec<u8>, AllocError>
+pub(crate) fn answer_bytes(alloc: Global, answer: &Answer) -> Result<Vec<u8>, AllocError>
     ensures { IfOk result (λ v. v.items ≡ bytes_of answer.now) }
 {
     let room = match answer {
@@ -23,7 +23,7 @@ pub fn answer_bytes(alloc: Global, answer: &Answer) -> Result<Vec<u8>, AllocErro
 }
 
 /// Appends the bytes of an answer: a report after its heading line, or one line.
-pub fn put_answer(text: &mut Vec<u8>, answer: &Answer) -> Result<(), AllocError>
+pub(crate) fn put_answer(text: &mut Vec<u8>, answer: &Answer) -> Result<(), AllocError>
     ensures { OnOk result (text.new.items ≡ text.old.items ++ bytes_of answer.now) }
 {
     match answer {

@@ -37,7 +37,11 @@ pub fn peek<D: Keeper>(
 }
 
 /// The answer to `all k`: a report of each replication. Where a growth was refused, the steps that were made stay.
-pub fn report_all<D: Keeper>(alloc: Global, keeper: &mut D, k: u64) -> Result<Vec<u8>, AllocError>
+pub(crate) fn report_all<D: Keeper>(
+    alloc: Global,
+    keeper: &mut D,
+    k: u64,
+) -> Result<Vec<u8>, AllocError>
     ensures ok { IfOk result (λ v. ReportsAll D.version D.does keeper.old k v.items keeper.new) }
     ensures err { OnErr result (ReportsAll D.version D.does keeper.old k (codes "memory\n") keeper.new) }
 {

@@ -56,7 +56,7 @@ fn word(reason: Reason) -> &'static [u8]
 }
 
 /// Whether the request ends the session.
-pub fn is_quit(request: &Request) -> bool
+pub(crate) fn is_quit(request: &Request) -> bool
     ensures { result ≡ is_quit request.now }
 {
     matches!(request, Request::Quit)

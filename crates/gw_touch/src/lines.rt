@@ -37,7 +37,7 @@ pub fn last_block(lines: &[Numbered]) -> Option<StatementId>
 }
 
 /// How many commands there are.
-pub fn count_commands(lines: &[Numbered]) -> u64
+pub(crate) fn count_commands(lines: &[Numbered]) -> u64
     ensures { result ≡ length (filter is_command lines.now) }
 {
     let mut count = 0;

@@ -22,7 +22,7 @@ fn same_body(old: &Body, new: &Body) -> bool
     }
 }
 
-pub fn same_block(old: &Block, new: &Block) -> bool
+pub(crate) fn same_block(old: &Block, new: &Block) -> bool
     ensures { result ≡ same_block old.now new.now }
 {
     same_verb(old.verb, new.verb)
@@ -94,7 +94,7 @@ fn same_operand(old: &Option<Expr>, new: &Option<Expr>) -> bool
 }
 
 /// Whether both operands are the same, as they are read.
-pub fn same_term(old: &Expr, new: &Expr) -> bool
+pub(crate) fn same_term(old: &Expr, new: &Expr) -> bool
     ensures { result ≡ same_term old.now new.now }
 {
     let (old, new) = (old.node(), new.node());

@@ -119,7 +119,7 @@ fn seed_touch(replication: u64, old: Option<u64>, new: Option<u64>) -> Touch
 }
 
 /// The seed, where the replication is the one that has another seed.
-pub fn seed_probe(reseeded: Option<u64>, replication: u64) -> Option<Probe>
+pub(crate) fn seed_probe(reseeded: Option<u64>, replication: u64) -> Option<Probe>
     ensures { given (result ∷ []) ≡ seed_probes reseeded replication }
 {
     match reseeded {

@@ -1,5 +1,4 @@
 use Rattle.std.proofs.Common.{◌≡◌, ◌≤◌, ◌+◌, ◌%◌, ℕ, Bool, ap, ap₂, ◌∙◌, ◌++◌, List, take, filter, rules, subst, sym}
-use Rattle.std.specs.Prelude.{Result, Ok, Err, IsErr, OnOk, OnErr}
 use Rattle.std.proofs.lemmas.Fn.{filter_same}
 use Rattle.gw_meaning.specs.Machine.{Machine}
 use Rattle.gw_record.specs.declared.kept.Kept.{Kept}
@@ -11,15 +10,6 @@ use Rattle.gw_record.proofs.AdoptLaws.{adopts}
 use Rattle.gw_record.proofs.KeepLaws.{due_all}
 use Rattle.gw_record.proofs.recorded.Recorded.adopt.Goals as goal
 
--- nothing is said of a value where there is an error
-no_value : {T E : Type 0} (r : Result T E) (P : Type 0) → IsErr r → OnOk r P
-no_value (Ok v) P err = absurd cc
-no_value (Err e) P err = tt
-
-anyway : {T E : Type 0} (r : Result T E) (P : Type 0) → P → OnErr r P
-anyway (Ok v) P p = tt
-anyway (Err e) P p = p
-
 pub invariant_of-self : goal.invariant_of-self
 invariant_of-self c =
     let (within, multiple, due, streams) = c.self.invariant in
@@ -27,14 +17,8 @@ invariant_of-self c =
     (sym c.reserve.ensures.items) due in
     (within, multiple, same, streams)
 
-pub returns-in_err-reserve-clause-adopts : goal.returns-in_err-reserve-clause-adopts
-returns-in_err-reserve-clause-adopts c = no_value _ _ c.from_residual.ensures.0
-
-pub returns-in_err-reserve-clause-records : goal.returns-in_err-reserve-clause-records
-returns-in_err-reserve-clause-records c = no_value _ _ c.from_residual.ensures.0
-
-pub returns-in_err-reserve-clause-err : goal.returns-in_err-reserve-clause-err
-returns-in_err-reserve-clause-err c =
+pub returns-then-is_err-clause-err : goal.returns-then-is_err-clause-err
+returns-then-is_err-clause-err c =
     let was : List Kept → Tape = λ kept. record {
       every = c.self.inside.every;
       start = c.self.inside.start;
@@ -44,7 +28,7 @@ returns-in_err-reserve-clause-err c =
       ends = c.self.inside.ends.items;
       firsts = c.self.inside.notes.firsts;
     } in
-    anyway _ _ (ap was c.reserve.ensures.items ∙ c.self.view_is)
+    ap was c.reserve.ensures.items ∙ c.self.view_is
 
 pub invariant_of-self-2 : goal.invariant_of-self-2
 invariant_of-self-2 c =

@@ -43,13 +43,13 @@ returns-in_err-copy-clause-same c =
     } in
     ap was c.share.ensures ∙ c.self.view_is
 
-pub invariant_of-self-in_err-from_slice : goal.invariant_of-self-in_err-from_slice
-invariant_of-self-in_err-from_slice c =
+pub invariant_of-self-in_err-ends : goal.invariant_of-self-in_err-ends
+invariant_of-self-in_err-ends c =
     let (within, multiple, due, streams) = c.self.invariant in
     (within, multiple, due, streams ∙ sym (ap (λ (s : Machine). s.streams) c.share.ensures))
 
-pub returns-in_err-from_slice-clause-same : goal.returns-in_err-from_slice-clause-same
-returns-in_err-from_slice-clause-same c =
+pub returns-in_err-ends-clause-same : goal.returns-in_err-ends-clause-same
+returns-in_err-ends-clause-same c =
     let was : Machine → Tape = λ tip. record {
       every = c.self.inside.every;
       start = c.self.inside.start;
@@ -61,13 +61,13 @@ returns-in_err-from_slice-clause-same c =
     } in
     ap was c.share.ensures ∙ c.self.view_is
 
-pub invariant_of-self-in_err-copy-2 : goal.invariant_of-self-in_err-copy-2
-invariant_of-self-in_err-copy-2 c =
+pub invariant_of-self-in_err-notes : goal.invariant_of-self-in_err-notes
+invariant_of-self-in_err-notes c =
     let (within, multiple, due, streams) = c.self.invariant in
     (within, multiple, due, streams ∙ sym (ap (λ (s : Machine). s.streams) c.share.ensures))
 
-pub returns-in_err-copy-2-clause-same : goal.returns-in_err-copy-2-clause-same
-returns-in_err-copy-2-clause-same c =
+pub returns-in_err-notes-clause-same : goal.returns-in_err-notes-clause-same
+returns-in_err-notes-clause-same c =
     let was : Machine → Tape = λ tip. record {
       every = c.self.inside.every;
       start = c.self.inside.start;
@@ -82,7 +82,7 @@ returns-in_err-copy-2-clause-same c =
 pub invariant_of-result : goal.invariant_of-result
 invariant_of-result c =
     let (within, multiple, due, streams) = c.self.invariant in
-    let noted : c.in_ok-copy-2.field-0.streams ≡ c.self.inside.notes.streams = λ i. (c.in_ok-copy-2.ensures i).streams in
+    let noted : c.in_ok-notes.notes.streams ≡ c.self.inside.notes.streams = λ i. (c.in_ok-notes.ensures i).streams in
     let shared : c.in_ok-copy.field-0.streams ≡ c.self.inside.tip.streams = ap (λ (s : Machine). s.streams) (c.in_ok-copy.ensures ∙ c.share.ensures) in
     (within, multiple, due_all _ _ _ _ _, noted ∙ (streams ∙ sym shared))
 
@@ -94,8 +94,8 @@ invariant_of-self-2 c =
 pub returns-clause-value : goal.returns-clause-value
 returns-clause-value c =
     let tip : c.in_ok-copy.field-0 ≡ c.self.inside.tip = c.in_ok-copy.ensures ∙ c.share.ensures in
-    let ends : c.in_ok-from_slice.field-0.items ≡ c.self.inside.ends.items = c.in_ok-from_slice.ensures.items ∙ c.as_slice.ensures.value in
-    let firsts : c.in_ok-copy-2.field-0.firsts ≡ c.self.inside.notes.firsts = λ i. (c.in_ok-copy-2.ensures i).firsts in
+    let ends : c.in_ok-ends.ends.items ≡ c.self.inside.ends.items = c.in_ok-ends.ensures.items ∙ c.as_slice.ensures.value in
+    let firsts : c.in_ok-notes.notes.firsts ≡ c.self.inside.notes.firsts = λ i. (c.in_ok-notes.ensures i).firsts in
     let made : Machine → List Kept → List ℕ → FirstUses → Tape = λ tip kept ends firsts. record {
       every = c.self.inside.every;
       start = c.self.inside.moment;
@@ -105,7 +105,7 @@ returns-clause-value c =
       ends = ends;
       firsts = firsts;
     } in
-    ap₂ (λ tip kept. made tip kept c.in_ok-from_slice.field-0.items c.in_ok-copy-2.field-0.firsts) tip c.new.ensures.items
+    ap₂ (λ tip kept. made tip kept c.in_ok-ends.ends.items c.in_ok-notes.notes.firsts) tip c.new.ensures.items
     ∙ (ap₂ (made c.self.inside.tip []) ends firsts ∙ ap from_tip c.self.view_is)
 
 pub returns-clause-records : goal.returns-clause-records
