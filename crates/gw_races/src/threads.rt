@@ -309,25 +309,35 @@ fn two_legs_at_once(rt: HostRuntime) -> Result<(), Fail> {
 }
 
 // A worker that meets nobody at the gate makes no step: so would each of two that take turns.
-struct Alone;
+fn alone<N: RowName + Send + Sync, R: Threads + Wait + Abort + Sync>(
+    rt: &R,
+    alloc: Global,
+    row: Row,
+    opening: Version,
+) -> Result<(), Fail>
+    requires row { row ≡ N.boxes }
+    requires opening { opening ≡ N.opening }
+{
+    let bench: Bench<N> = Bench::new(alloc, row, opening, 4)?;
+    let gate = Meeting::new(1_000);
+    serve(rt, alloc, &bench, 1, 20, &gate);
+    let unmade = is_unmade(rt, &bench);
+    drop(bench);
+    unmade
+}
 
-impl Case for Alone {
-    fn over<N: RowName + Send + Sync, R: Threads + Wait + Abort + Sync>(
-        rt: &R,
-        alloc: Global,
-        bench: &Bench<N>,
-    ) -> Result<(), Fail> {
-        let gate = Meeting::new(1_000);
-        serve(rt, alloc, bench, 1, 20, &gate);
-        let mut pass = bench.pass()?;
-        assert!(rt; is_unfinished(&bench.peek(rt, &mut pass, 1, 1), 0));
-        Ok(())
-    }
+// Whether no step of the first replication is recorded.
+fn is_unmade<N: RowName, R: Wait + Abort>(rt: &R, bench: &Bench<N>) -> Result<(), Fail> {
+    let mut pass = bench.pass()?;
+    assert!(rt; is_unfinished(&bench.peek(rt, &mut pass, 1, 1), 0));
+    Ok(())
 }
 
 #[test]
 fn a_worker_that_meets_nobody(rt: HostRuntime) -> Result<(), Fail> {
-    try_case::<Alone, _>(&rt, rt.alloc(), 2)
+    let row = Row::new(rt.alloc())?;
+    let opening = version(rt.alloc(), MODEL, 1_000_000, 2).ok_or("no model")?;
+    alone::<Brand, _>(&rt, rt.alloc(), row, opening)
 }
 
 // Of two who delete the last statement, one finds it gone.
