@@ -7,7 +7,8 @@ use Rattle.gw_meaning.specs.Machine.{Machine}
 use Rattle.gw_meaning.specs.declared.moves.Change.{Change}
 use Rattle.gw_meaning.specs.declared.moves.Fate.{Fate}
 use Rattle.gw_meaning.specs.declared.transaction.Transaction.{Transaction}
-use Rattle.gw_meaning.specs.Changes.{is_woken, woke, woken, with_active, written_where}
+use Rattle.gw_meaning.specs.Changes.{is_woken, woke, woken, with_active, written_where, entering}
+use Rattle.gw_state.specs.Making.{HasEntered}
 
 nothing_read : (read : List Watched) → list_any (is_watched []) read ≡ false
 nothing_read [] = refl
@@ -29,8 +30,11 @@ pub unwoken : (P : Machine → Type 0) (list : List Watched) (s : Machine) → l
 unwoken P list s none h = subst P (sym (ap (λ ws. woken ws s) none ∙ nobody_wakes s)) h
 
 -- where no transaction is active nothing is written
-pub nobody_enters :
+nobody_enters :
     (s : Machine) (active : Option Transaction) (id : ℕ) (change : Change) (fate : Fate) (f : Transaction → Machine) → active ≡ None →
     s ≡ woken (written_where active id change fate s) (with_active active f s)
 nobody_enters s active id change fate f none =
     subst (λ a. s ≡ woken (written_where a id change fate s) (with_active a f s)) (sym none) (sym (nobody_wakes s))
+
+pub not_entered : (s : Machine) (id : ℕ) (change : Change) (fate : Fate) → s.active ≡ None → HasEntered id change fate s s
+not_entered s id change fate none = nobody_enters s s.active id change fate (λ x. entering s x id change fate) none

@@ -7,3 +7,4 @@ pub mod Copies
 pub mod Making
 pub mod Parts
 pub mod States
+pub mod Waking

@@ -1,9 +1,9 @@
 // What a deed makes of an entity: at a clock, where the transaction with a number enters the block.
 ghost use Rattle.std.specs.Prelude.{◌≡◌};
-ghost use Rattle.gw_meaning.specs.Entities.{all_entered, done_to_facility, done_to_queue, done_to_storage};
+ghost use Rattle.gw_meaning.specs.Entities.{all_entered, done_to_facility, done_to_queue};
 
 use gw_entities::{Facility, Queue, Storage};
-use gw_meaning::{FacilityDeed, QueueDeed, StorageDeed};
+use gw_meaning::{FacilityDeed, QueueDeed};
 use gw_nums::Clock;
 
 #[inline(always)]
@@ -40,24 +40,9 @@ pub fn done_to_queue(deed: QueueDeed, clock: Clock, queue: Queue) -> Queue
     queue
 }
 
-#[inline(always)]
-pub fn done_to_storage(deed: &StorageDeed, clock: Clock, storage: Storage) -> Storage
-    ensures { result ≡ done_to_storage deed.now clock storage }
-{
-    let mut storage = storage;
-    match deed {
-        StorageDeed::Enter { units } => storage.enter(*units, clock),
-        StorageDeed::Leave { units, shares } => {
-            storage.leave(*units, clock);
-            enter_all(&mut storage, shares.as_slice(), clock);
-        }
-    }
-    storage
-}
-
 // The units of each share come into use, one by one.
 #[inline(never)]
-fn enter_all(storage: &mut Storage, shares: &[Option<u64>], clock: Clock)
+pub fn enter_all(storage: &mut Storage, shares: &[Option<u64>], clock: Clock)
     ensures { storage.new ≡ all_entered shares.now clock storage.old }
 {
     for share in shares {

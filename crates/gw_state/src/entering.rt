@@ -1,20 +1,25 @@
 // A transaction enters a block: room is made for all that comes of it, then it moves, and then those come whom its
-// change brings.
-ghost use Rattle.std.specs.Prelude.{◌≡◌, ◌<◌, ◌-◌, ◌≤◌, ◌+◌, Some, OnOk, OnErr};
-ghost use Rattle.gw_meaning.specs.declared.moves.Move.TheVariants as moves;
-ghost use Rattle.gw_meaning.specs.Changes.{moved, placed, own_marked, marked, own_held, held_by, fated, changed, written, woken};
-ghost use Rattle.gw_meaning.specs.Entities.{touched};
-ghost use Rattle.gw_state.specs.Parts.{entities_of};
-ghost use Rattle.gw_state.specs.Making.{IsAlone, HasRoom, active_behind, StandsWithin, brought, given, kept_by, linked_by};
+// change brings. What may be refused comes first. Each kind of change and of fate is taken apart and has a function of
+// its own: no reference to a change, a fate or a deed goes to a call that is not inlined, since the whole of it would
+// lie in memory for that.
+ghost use Rattle.std.specs.Prelude.{◌≡◌, ℕ, ◌+◌, ◌<◌, ◌≤◌, OnOk, OnErr};
+ghost use Rattle.gw_meaning.specs.declared.moves.Change.TheVariants as changes;
+ghost use Rattle.gw_meaning.specs.declared.moves.Fate.TheVariants as fates;
+ghost use Rattle.gw_meaning.specs.Changes.{placed, own_marked, own_held, arrived, crossed};
+ghost use Rattle.gw_state.specs.Making.{IsAlone, IsSending, HasEntered, HasRoomToCreate};
 ghost use Rattle.gw_state.specs.States.{machine_of};
 
 use crate::parts::Parts;
+use crate::waking::{kind_of, shares_of};
 use gw_chains::PriorityChain;
 use gw_entities::Parameters;
+use gw_expr::Discipline;
 use gw_meaning::{
-    Change, Destination, EntityChange, Event, Fate, StatementId, Transaction, TransactionChange,
+    Arrival, Change, Deed, Destination, EntityChange, EntityKind, Event, Fate, StatementId,
+    Transaction, TransactionChange,
 };
-use gw_nums::Clock;
+use gw_names::Key;
+use gw_nums::{Clock, Time};
 use std::alloc::{AllocError, Global};
 
 impl Parts {
@@ -24,206 +29,358 @@ impl Parts {
         &mut self,
         alloc: Global,
         id: StatementId,
-        change: &Change,
-        fate: &Fate,
+        change: Change,
+        fate: Fate,
     ) -> Result<(), AllocError>
-        requires { IsAlone change.now fate.now }
-        ensures ok { OnOk result (machine_of self.new ≡
-            woken (written (machine_of self.old) (moves.Enter id change.now fate.now))
-            (moved (machine_of self.old) (moves.Enter id change.now fate.now))) }
+        requires { IsAlone change fate }
+        ensures ok { OnOk result (HasEntered id change fate (machine_of self.old) (machine_of self.new)) }
+        ensures err { OnErr result (machine_of self.new ≡ machine_of self.old) }
+    {
+        match change {
+            Change::Nothing => self.enter_for(alloc, id, fate),
+            Change::Generate { next } => self.enter_generating(alloc, id, next),
+            Change::Transaction(change) => self.enter_changing(alloc, id, change),
+            Change::Entity(EntityChange { key, deed }) => self.enter_doing(alloc, id, &key, &deed),
+            Change::Split { .. } | Change::Unlink { .. } => self.enter_sending(alloc, id, change),
+        }
+    }
+
+    // It changes nothing, and goes where its fate says.
+    #[inline(always)]
+    fn enter_for(&mut self, alloc: Global, id: StatementId, fate: Fate) -> Result<(), AllocError>
+        ensures ok { OnOk result (HasEntered id changes.Nothing fate (machine_of self.old) (machine_of self.new)) }
+        ensures err { OnErr result (machine_of self.new ≡ machine_of self.old) }
+    {
+        match fate {
+            Fate::Active => self.enter_staying(alloc, id),
+            Fate::Current => self.enter_yielding(alloc, id),
+            Fate::Delayed { until } => self.enter_held(alloc, id, until),
+            Fate::Linked { key, discipline } => self.enter_linked(alloc, id, &key, discipline),
+            Fate::Destroyed { count } => self.enter_last(alloc, id, count),
+        }
+    }
+
+    // It stays active.
+    #[inline(always)]
+    fn enter_staying(&mut self, alloc: Global, id: StatementId) -> Result<(), AllocError>
+        ensures ok { OnOk result (HasEntered id changes.Nothing fates.Active
+            (machine_of self.old) (machine_of self.new)) }
         ensures err { OnErr result (machine_of self.new ≡ machine_of self.old) }
     {
         let Some(x) = self.active.as_ref() else {
             return Ok(());
         };
         let x = *x;
-        let written = self.to_wake(alloc, &x, id, change, fate)?;
-        let others = self.retry.reserve(written.as_slice())?;
-        self.reserve(id, change, others)?;
-        // The last that may be refused.
-        self.update(alloc, &x, id, change, fate)?;
-        self.counts.cross(x.current, id, fate);
-        let clock = self.clocks.clock();
-        self.follow(marked(change, clock, placed(x, id)), fate);
-        self.bring(change);
-        self.retry.wake(written.as_slice(), &mut self.current);
+        let written = self.prepare(alloc, x.current, id)?;
+        self.cross(x.current, id);
+        self.active = Some(placed(&x, id));
+        self.wake(&written);
         Ok(())
     }
 
-    // Makes room to count a transaction in a block, for where it goes, for those whom its change brings, and for so
-    // many others on the current chain. Nobody moves.
+    // It lets its equals on the current chain move first.
+    #[inline(never)]
+    fn enter_yielding(&mut self, alloc: Global, id: StatementId) -> Result<(), AllocError>
+        ensures ok { OnOk result (HasEntered id changes.Nothing fates.Current
+            (machine_of self.old) (machine_of self.new)) }
+        ensures err { OnErr result (machine_of self.new ≡ machine_of self.old) }
+    {
+        let Some(x) = self.active.as_ref() else {
+            return Ok(());
+        };
+        let x = *x;
+        let written = self.prepare(alloc, x.current, id)?;
+        reserve_for(&mut self.current, 1, written.count())?;
+        self.cross(x.current, id);
+        self.active = None;
+        self.current.line_up(placed(&x, id));
+        self.wake(&written);
+        Ok(())
+    }
+
+    // It is held until a time.
     #[inline(always)]
-    fn reserve(&mut self, id: StatementId, change: &Change, others: usize) -> Result<(), AllocError>
-        ensures ok { OnOk result (HasRoom change.now self.new.delays (self.new.current.room - (others + 1))
-            (self.new.future.room - 1) self.new.counts.limit) }
-        ensures others { OnOk result (others < self.new.current.room) }
-        ensures future { OnOk result (0 < self.new.future.room) }
-        ensures block { OnOk result (id < self.new.counts.limit) }
+    fn enter_held(&mut self, alloc: Global, id: StatementId, until: Time) -> Result<(), AllocError>
+        ensures ok { OnOk result (HasEntered id changes.Nothing (fates.Delayed until)
+            (machine_of self.old) (machine_of self.new)) }
+        ensures err { OnErr result (machine_of self.new ≡ machine_of self.old) }
+    {
+        let Some(x) = self.active.as_ref() else {
+            return Ok(());
+        };
+        let x = *x;
+        let written = self.prepare(alloc, x.current, id)?;
+        self.future.reserve(1)?;
+        self.cross(x.current, id);
+        self.active = None;
+        self.future.put(Event {
+            time: until,
+            transaction: placed(&x, id),
+        });
+        self.wake(&written);
+        Ok(())
+    }
+
+    // It goes to the user chain of a key.
+    #[inline(never)]
+    fn enter_linked(
+        &mut self,
+        alloc: Global,
+        id: StatementId,
+        key: &Key,
+        discipline: Discipline,
+    ) -> Result<(), AllocError>
+        ensures ok { OnOk result (HasEntered id changes.Nothing (fates.Linked key.now discipline)
+            (machine_of self.old) (machine_of self.new)) }
+        ensures err { OnErr result (machine_of self.new ≡ machine_of self.old) }
+    {
+        let Some(x) = self.active.as_ref() else {
+            return Ok(());
+        };
+        let x = *x;
+        let written = self.prepare_with(alloc, x.current, id, EntityKind::UserChain, key, &[])?;
+        self.linked.link(key, placed(&x, id), discipline)?;
+        self.cross(x.current, id);
+        self.active = None;
+        self.wake(&written);
+        Ok(())
+    }
+
+    // It is destroyed, and takes so many from the termination count.
+    #[inline(never)]
+    fn enter_last(&mut self, alloc: Global, id: StatementId, count: u64) -> Result<(), AllocError>
+        ensures ok { OnOk result (HasEntered id changes.Nothing (fates.Destroyed count)
+            (machine_of self.old) (machine_of self.new)) }
+        ensures err { OnErr result (machine_of self.new ≡ machine_of self.old) }
+    {
+        let Some(x) = self.active.as_ref() else {
+            return Ok(());
+        };
+        let x = *x;
+        let written = self.prepare(alloc, x.current, id)?;
+        self.parameters.forget(x.number)?;
+        self.cross_out(x.current, id);
+        self.active = None;
+        self.progress.count_down(count);
+        self.wake(&written);
+        Ok(())
+    }
+
+    // A GENERATE sets the mark time and makes the next transaction, if any.
+    #[inline(never)]
+    fn enter_generating(
+        &mut self,
+        alloc: Global,
+        id: StatementId,
+        next: Option<Arrival>,
+    ) -> Result<(), AllocError>
+        ensures ok { OnOk result (HasEntered id (changes.Generate next) fates.Active
+            (machine_of self.old) (machine_of self.new)) }
+        ensures err { OnErr result (machine_of self.new ≡ machine_of self.old) }
+    {
+        let Some(x) = self.active.as_ref() else {
+            return Ok(());
+        };
+        let x = *x;
+        let written = self.prepare(alloc, x.current, id)?;
+        self.reserve_to_create(&next)?;
+        self.cross(x.current, id);
+        self.active = Some(Transaction {
+            mark: self.clocks.clock().time(),
+            ..placed(&x, id)
+        });
+        self.create_next(next);
+        self.wake(&written);
+        Ok(())
+    }
+
+    // It changes itself alone.
+    #[inline(always)]
+    fn enter_changing(
+        &mut self,
+        alloc: Global,
+        id: StatementId,
+        change: TransactionChange,
+    ) -> Result<(), AllocError>
+        ensures ok { OnOk result (HasEntered id (changes.Transaction change) fates.Active
+            (machine_of self.old) (machine_of self.new)) }
+        ensures err { OnErr result (machine_of self.new ≡ machine_of self.old) }
+    {
+        let Some(x) = self.active.as_ref() else {
+            return Ok(());
+        };
+        let x = *x;
+        let written = self.prepare(alloc, x.current, id)?;
+        let changed = own_marked(&change, self.clocks.clock(), placed(&x, id));
+        assign(&mut self.parameters, x.number, change)?;
+        self.cross(x.current, id);
+        self.active = Some(changed);
+        self.wake(&written);
+        Ok(())
+    }
+
+    // A SPLIT or an UNLINK sends others to a block.
+    #[inline(never)]
+    fn enter_sending(
+        &mut self,
+        alloc: Global,
+        id: StatementId,
+        change: Change,
+    ) -> Result<(), AllocError>
+        requires { IsSending change }
+        ensures ok { OnOk result (HasEntered id change fates.Active (machine_of self.old) (machine_of self.new)) }
+        ensures err { OnErr result (machine_of self.new ≡ machine_of self.old) }
+    {
+        match &change {
+            Change::Split { count, to } => self.enter_splitting(alloc, id, *count, *to),
+            Change::Unlink { key, count, to } => {
+                self.enter_unlinking(alloc, id, key, *count, *to)
+            }
+            _ => unreachable!(),
+        }
+    }
+
+    // A SPLIT makes so many copies, which go to a block.
+    #[inline(never)]
+    fn enter_splitting(
+        &mut self,
+        alloc: Global,
+        id: StatementId,
+        count: u64,
+        to: Destination,
+    ) -> Result<(), AllocError>
+        ensures ok { OnOk result (HasEntered id (changes.Split count to) fates.Active
+            (machine_of self.old) (machine_of self.new)) }
+        ensures err { OnErr result (machine_of self.new ≡ machine_of self.old) }
+    {
+        let Some(x) = self.active.as_ref() else {
+            return Ok(());
+        };
+        let x = *x;
+        let written = self.prepare(alloc, x.current, id)?;
+        reserve_for(&mut self.current, count, written.count())?;
+        self.parameters.inherit(alloc, x.number, self.next, count)?;
+        self.cross(x.current, id);
+        self.active = Some(placed(&x, id));
+        self.copy_all(placed(&x, id), count, to);
+        self.wake(&written);
+        Ok(())
+    }
+
+    // An UNLINK sends so many from the front of a user chain to a block.
+    #[inline(never)]
+    fn enter_unlinking(
+        &mut self,
+        alloc: Global,
+        id: StatementId,
+        key: &Key,
+        count: u64,
+        to: Destination,
+    ) -> Result<(), AllocError>
+        ensures ok { OnOk result (HasEntered id (changes.Unlink key.now count to) fates.Active
+            (machine_of self.old) (machine_of self.new)) }
+        ensures err { OnErr result (machine_of self.new ≡ machine_of self.old) }
+    {
+        let Some(x) = self.active.as_ref() else {
+            return Ok(());
+        };
+        let x = *x;
+        let written = self.prepare_with(alloc, x.current, id, EntityKind::UserChain, key, &[])?;
+        reserve_for(&mut self.current, count, written.count())?;
+        self.cross(x.current, id);
+        self.active = Some(placed(&x, id));
+        self.linked.unlink(key, count, to, &mut self.current);
+        self.wake(&written);
+        Ok(())
+    }
+
+    // It does something to the entity with a key, and those come whom that lets in.
+    #[inline(always)]
+    fn enter_doing(
+        &mut self,
+        alloc: Global,
+        id: StatementId,
+        key: &Key,
+        deed: &Deed,
+    ) -> Result<(), AllocError>
+        ensures ok { OnOk result (HasEntered id (changes.Entity (key.now, deed.now)) fates.Active
+            (machine_of self.old) (machine_of self.new)) }
+        ensures err { OnErr result (machine_of self.new ≡ machine_of self.old) }
+    {
+        let Some(x) = self.active.as_ref() else {
+            return Ok(());
+        };
+        let x = *x;
+        let shares = shares_of(deed);
+        let written = self.prepare_with(alloc, x.current, id, kind_of(deed), key, shares)?;
+        self.reserve_to_admit(key, deed, written.count())?;
+        self.entities
+            .make(key, deed, self.clocks.clock(), x.number)?;
+        self.cross(x.current, id);
+        self.active = Some(placed(&x, id));
+        self.admit(key, deed);
+        self.wake(&written);
+        Ok(())
+    }
+
+    // A transaction leaves a block for another, in which it stays.
+    #[inline(never)]
+    fn cross(&mut self, from: StatementId, to: StatementId)
+        requires { to < self.old.counts.limit }
+        ensures rest { self.new ≡ record self.old { counts = self.new.counts } }
+        ensures entries { self.new.counts.entries ≡ crossed fates.Active self.old.counts.entries from to }
+        ensures limit { self.new.counts.limit ≡ self.old.counts.limit }
+    {
+        self.counts.cross(from, to, &Fate::Active);
+    }
+
+    // A transaction leaves a block for another, in which it is destroyed.
+    #[inline(never)]
+    fn cross_out(&mut self, from: StatementId, to: StatementId)
+        requires { to < self.old.counts.limit }
+        ensures rest { self.new ≡ record self.old { counts = self.new.counts } }
+        ensures entries { (count : ℕ) → self.new.counts.entries ≡
+            crossed (fates.Destroyed count) self.old.counts.entries from to }
+    {
+        self.counts.cross(from, to, &Fate::Destroyed { count: 0 });
+    }
+
+    // Makes room for the transaction that a GENERATE makes, if any. Nobody moves.
+    #[inline(always)]
+    fn reserve_to_create(&mut self, next: &Option<Arrival>) -> Result<(), AllocError>
+        ensures ok { OnOk result (HasRoomToCreate next.now self.new.future.room self.new.counts.limit) }
+        ensures limit { self.old.counts.limit ≤ self.new.counts.limit }
         ensures same { machine_of self.new ≡ machine_of self.old }
+        ensures rest { self.new ≡ record self.old { future = self.new.future; counts = self.new.counts } }
+    {
+        let Some(arrival) = next else {
+            return Ok(());
+        };
+        self.future.reserve(1)?;
+        self.counts.reserve(arrival.id)
+    }
+
+    // A GENERATE makes the next transaction, if any.
+    #[inline(always)]
+    fn create_next(&mut self, next: Option<Arrival>)
+        requires { HasRoomToCreate next self.old.future.room self.old.counts.limit }
+        ensures arrived { machine_of self.new ≡ arrived next (machine_of self.old) }
         ensures rest { self.new ≡ record self.old {
-          current = self.new.current;
+          next = self.new.next;
           future = self.new.future;
-          delays = self.new.delays;
           counts = self.new.counts;
         } }
     {
-        let Some(all) = others.checked_add(1) else {
-            return Err(AllocError);
-        };
-        self.counts.reserve(id)?;
-        // For the one that enters, and for whom a GENERATE makes.
-        self.future.reserve(2)?;
-        match change {
-            Change::Entity(EntityChange { key, deed }) => { self.reserve_to_admit(key, deed, all) }
-            Change::Generate {
-                next: Some(arrival),
-            } => {
-                self.current.reserve(all)?;
-                self.counts.reserve(arrival.id)
-            }
-            Change::Split { count, .. } | Change::Unlink { count, .. } => {
-                reserve_for(&mut self.current, *count, all)
-            }
-            Change::Nothing | Change::Generate { next: None } | Change::Transaction(_) => {
-                self.current.reserve(all)
-            }
-        }
-    }
-
-    // Changes the entities, the parameters and the user chains where a transaction enters a block; or nothing where
-    // memory is refused.
-    #[inline(always)]
-    fn update(
-        &mut self,
-        alloc: Global,
-        x: &Transaction,
-        id: StatementId,
-        change: &Change,
-        fate: &Fate,
-    ) -> Result<(), AllocError>
-        requires { IsAlone change.now fate.now }
-        ensures entities { OnOk result (entities_of self.new.entities ≡
-            touched change.now self.old.clocks.clock x.now.number (entities_of self.old.entities)) }
-        ensures parameters { OnOk result (self.new.parameters ≡
-            given change.now (active_behind fate.now x.now) self.old.next
-            (kept_by fate.now x.now.number (held_by change.now x.now.number self.old.parameters))) }
-        ensures linked { OnOk result (self.new.linked ≡ linked_by fate.now (placed x.now id) self.old.linked) }
-        ensures err { OnErr result (machine_of self.new ≡ machine_of self.old) }
-        ensures rest { self.new ≡ record self.old {
-          entities = self.new.entities;
-          parameters = self.new.parameters;
-          linked = self.new.linked;
-        } }
-    {
-        match fate {
-            Fate::Active => self.update_active(alloc, x, change),
-            Fate::Current | Fate::Delayed { .. } => Ok(()),
-            Fate::Linked { key, discipline } => {
-                self.linked.link(key, placed(*x, id), *discipline)
-            }
-            Fate::Destroyed { .. } => self.parameters.forget(x.number),
-        }
-    }
-
-    // The same, where the transaction stays active.
-    #[inline(always)]
-    fn update_active(
-        &mut self,
-        alloc: Global,
-        x: &Transaction,
-        change: &Change,
-    ) -> Result<(), AllocError>
-        ensures entities { OnOk result (entities_of self.new.entities ≡
-            touched change.now self.old.clocks.clock x.now.number (entities_of self.old.entities)) }
-        ensures parameters { OnOk result (self.new.parameters ≡
-            given change.now (Some x.now) self.old.next (held_by change.now x.now.number self.old.parameters)) }
-        ensures err { OnErr result (machine_of self.new ≡ machine_of self.old) }
-        ensures rest { self.new ≡ record self.old {
-          entities = self.new.entities;
-          parameters = self.new.parameters;
-        } }
-    {
-        match change {
-            Change::Entity(EntityChange { key, deed }) => {
-                self.entities.make(key, deed, self.clocks.clock(), x.number)
-            }
-            Change::Transaction(change) => assign(&mut self.parameters, x.number, change),
-            Change::Split { count, .. } => {
-                self.parameters.inherit(alloc, x.number, self.next, *count)
-            }
-            Change::Nothing | Change::Generate { .. } | Change::Unlink { .. } => Ok(()),
-        }
-    }
-
-    // The transaction that entered a block goes where its fate says. Its parameters and its user chain were updated
-    // before.
-    #[inline(always)]
-    fn follow(&mut self, x: Transaction, fate: &Fate)
-        requires current { 0 < self.old.current.room }
-        requires future { 0 < self.old.future.room }
-        ensures fated { machine_of self.new ≡ record (fated fate.now x (machine_of self.old)) {
-          linked = self.old.linked;
-          parameters = self.old.parameters;
-        } }
-        ensures active { self.new.active ≡ active_behind fate.now x }
-        ensures current_room { self.old.current.room ≤ self.new.current.room + 1 }
-        ensures future_room { self.old.future.room ≤ self.new.future.room + 1 }
-        ensures rest { self.new ≡ record self.old {
-          active = self.new.active;
-          current = self.new.current;
-          future = self.new.future;
-          progress = self.new.progress;
-        } }
-    {
-        self.active = None;
-        match fate {
-            Fate::Active => self.active = Some(x),
-            Fate::Current => self.current.line_up(x),
-            Fate::Delayed { until } => self.future.put(Event {
-                time: *until,
-                transaction: x,
-            }),
-            Fate::Linked { .. } => (),
-            Fate::Destroyed { count } => self.progress.count_down(*count),
-        }
-    }
-
-    // Whom a change brings: a GENERATE the next transaction, a SPLIT copies of the active one, whose parameters were
-    // given before, an UNLINK those who leave its user chain, a RELEASE and a LEAVE those whom they let in.
-    #[inline(always)]
-    fn bring(&mut self, change: &Change)
-        requires room { HasRoom change.now self.old.delays self.old.current.room self.old.future.room
-            self.old.counts.limit }
-        requires block { StandsWithin self.old.active self.old.counts.limit }
-        ensures brought { machine_of self.new ≡ record (changed change.now (machine_of self.old)) {
-          parameters = self.old.parameters;
-        } }
-        ensures retry { self.new.retry ≡ self.old.retry }
-        ensures room { self.old.current.room ≤ self.new.current.room + brought change.now self.old.delays }
-    {
-        match change {
-            Change::Entity(EntityChange { key, deed }) => self.admit(key, deed),
-            Change::Generate {
-                next: Some(arrival),
-            } => self.create(*arrival),
-            Change::Split { count, to } => {
-                if let Some(x) = self.active {
-                    self.copy_all(x, *count, *to);
-                }
-            }
-            Change::Unlink { key, count, to } => {
-                self.linked.unlink(key, *count, *to, &mut self.current)
-            }
-            Change::Nothing | Change::Generate { next: None } | Change::Transaction(_) => (),
+        if let Some(arrival) = next {
+            self.create(arrival);
         }
     }
 }
 
 // Makes room on the current chain for so many who come, and for so many others.
-#[inline(never)]
+#[inline(always)]
 fn reserve_for(current: &mut PriorityChain, count: u64, others: usize) -> Result<(), AllocError>
-    ensures ok { OnOk result (count ≤ current.new.room - others) }
-    ensures others { OnOk result (others ≤ current.new.room) }
+    ensures ok { OnOk result (others + count ≤ current.new.room) }
     ensures current { current.new.items ≡ current.old.items }
 {
     let Some(all) = others.checked_add(count as usize) else {
@@ -237,43 +394,32 @@ fn reserve_for(current: &mut PriorityChain, count: u64, others: usize) -> Result
 fn assign(
     parameters: &mut Parameters,
     number: u64,
-    change: &TransactionChange,
+    change: TransactionChange,
 ) -> Result<(), AllocError>
-    ensures ok { OnOk result (parameters.new ≡ own_held change.now number parameters.old) }
+    ensures ok { OnOk result (parameters.new ≡ own_held change number parameters.old) }
     ensures err { OnErr result (parameters.new ≡ parameters.old) }
 {
     match change {
-        TransactionChange::Assign { key, to } => parameters.assign(number, key, *to),
-        TransactionChange::Loop { key, left, .. } => parameters.assign(number, key, *left),
+        TransactionChange::Assign { key, to } => parameters.assign(number, &key, to),
+        TransactionChange::Loop { key, left, .. } => parameters.assign(number, &key, left),
         _ => Ok(()),
     }
 }
 
 // The transaction in the block that it enters.
 #[inline(always)]
-fn placed(x: Transaction, id: StatementId) -> Transaction
-    ensures { result ≡ placed x id }
+fn placed(x: &Transaction, id: StatementId) -> Transaction
+    ensures { result ≡ placed x.now id }
 {
     Transaction {
         current: id,
         destination: Destination::none(),
         asked: 0,
-        ..x
+        ..*x
     }
 }
 
-// What the block changes of its transaction, but for its parameters.
-#[inline(always)]
-fn marked(change: &Change, clock: Clock, x: Transaction) -> Transaction
-    ensures { result ≡ marked change.now clock x }
-{
-    match change {
-        Change::Generate { .. } => own_marked(&TransactionChange::Mark, clock, x),
-        Change::Transaction(change) => own_marked(change, clock, x),
-        Change::Nothing | Change::Split { .. } | Change::Unlink { .. } | Change::Entity(_) => x,
-    }
-}
-
+// What a block changes of its transaction, but for its parameters.
 #[inline(always)]
 fn own_marked(change: &TransactionChange, clock: Clock, x: Transaction) -> Transaction
     ensures { result ≡ own_marked change.now clock x }

@@ -1,13 +1,16 @@
 // The entities of a run.
 ghost use Rattle.std.specs.Prelude.{◌≡◌, IfOk, OnOk, OnErr};
+ghost use Rattle.gw_names.specs.declared.key.Key.{Key as Name};
 ghost use Rattle.gw_entities.specs.Comings.{came};
+ghost use Rattle.gw_entities.specs.Records.{entered, left};
+ghost use Rattle.gw_entities.specs.Tables.{with_value};
 ghost use Rattle.gw_meaning.specs.declared.entity_change.Deed.TheVariants as deeds;
-ghost use Rattle.gw_meaning.specs.Entities.{no_entities, facility_at, line_at, store_at, savevalue_at, switch_at, done, entities_anew, later};
+ghost use Rattle.gw_meaning.specs.Entities.{no_entities, facility_at, line_at, store_at, savevalue_at, switch_at, done, all_entered, entities_anew, later};
 ghost use Rattle.gw_state.specs.Parts.{entities_of};
 
-use crate::deeds::{done_to_facility, done_to_queue, done_to_storage};
+use crate::deeds::{done_to_facility, done_to_queue, enter_all};
 use gw_entities::{ByKey, Comings, Facility, Queue, Storage, Tables};
-use gw_meaning::{Deed, QueueDeed};
+use gw_meaning::{Deed, FacilityDeed, QueueDeed, StorageDeed};
 use gw_names::Key;
 use gw_nums::{Clock, Val};
 use std::alloc::{AllocError, Global};
@@ -147,7 +150,7 @@ impl Entities {
 
     /// Makes of the entity with a key what a deed says, at a clock, where the transaction with a number enters the block.
     /// Where memory is refused, nothing changes.
-    #[inline(never)]
+    #[inline(always)]
     pub fn make(
         &mut self,
         key: &Key,
@@ -159,19 +162,80 @@ impl Entities {
         ensures err { OnErr result (entities_of self.new ≡ entities_of self.old) }
     {
         match deed {
-            Deed::Facility(deed) => {
-                let facility = done_to_facility(*deed, clock, number, self.facility(key));
-                self.facilities.put(key, facility)
-            }
+            Deed::Facility(deed) => self.make_of_facility(key, *deed, clock, number),
             Deed::Queue(deed) => self.make_of_queue(key, *deed, clock, number),
-            Deed::Storage(deed) => {
-                let storage = done_to_storage(deed, clock, self.storage(key));
-                self.storages.put(key, storage)
+            Deed::Storage(StorageDeed::Enter { units }) => {
+                self.make_of_entered(key, *units, clock)
+            }
+            Deed::Storage(StorageDeed::Leave { units, shares }) => {
+                self.make_of_left(key, *units, shares.as_slice(), clock)
             }
             Deed::Savevalue { to } => self.savevalues.put(key, *to),
             Deed::Switch { set } => self.switches.put(key, *set),
             Deed::Table { value } => self.tables.add(key, *value),
         }
+    }
+
+    // What a deed makes of a facility.
+    #[inline(never)]
+    fn make_of_facility(
+        &mut self,
+        key: &Key,
+        deed: FacilityDeed,
+        clock: Clock,
+        number: u64,
+    ) -> Result<(), AllocError>
+        ghost of: { Name }
+        requires { of ≡ key.now }
+        ensures ok { OnOk result (entities_of self.new ≡
+            done key.now (deeds.Facility deed) clock number (entities_of self.old)) }
+        ensures err { OnErr result (entities_of self.new ≡ entities_of self.old) }
+    {
+        let place = self.facilities.place(key);
+        let was = self.facilities.value_at(place, Facility::new());
+        let facility = done_to_facility(deed, clock, number, was);
+        self.facilities.put_at(key, place, facility)
+    }
+
+    // What so many units make of a storage that come into use.
+    #[inline(never)]
+    fn make_of_entered(&mut self, key: &Key, units: u64, clock: Clock) -> Result<(), AllocError>
+        ghost of: { Name }
+        requires { of ≡ key.now }
+        ensures ok { OnOk result (entities_of self.new ≡ record (entities_of self.old) {
+          storages = with_value self.old.storages key.now
+              (entered units clock (store_at (entities_of self.old) key.now));
+        }) }
+        ensures err { OnErr result (entities_of self.new ≡ entities_of self.old) }
+    {
+        let place = self.storages.place(key);
+        let mut storage = self.storages.value_at(place, Storage::new());
+        storage.enter(units, clock);
+        self.storages.put_at(key, place, storage)
+    }
+
+    // What so many units make of a storage that are given back, and those with which others are let in.
+    #[inline(never)]
+    fn make_of_left(
+        &mut self,
+        key: &Key,
+        units: u64,
+        shares: &[Option<u64>],
+        clock: Clock,
+    ) -> Result<(), AllocError>
+        ghost of: { Name }
+        requires { of ≡ key.now }
+        ensures ok { OnOk result (entities_of self.new ≡ record (entities_of self.old) {
+          storages = with_value self.old.storages key.now
+              (all_entered shares.now clock (left units clock (store_at (entities_of self.old) key.now)));
+        }) }
+        ensures err { OnErr result (entities_of self.new ≡ entities_of self.old) }
+    {
+        let place = self.storages.place(key);
+        let mut storage = self.storages.value_at(place, Storage::new());
+        storage.leave(units, clock);
+        enter_all(&mut storage, shares, clock);
+        self.storages.put_at(key, place, storage)
     }
 
     // What a deed makes of a queue; who came to it is kept.
@@ -183,19 +247,23 @@ impl Entities {
         clock: Clock,
         number: u64,
     ) -> Result<(), AllocError>
+        ghost of: { Name }
+        requires { of ≡ key.now }
         ensures ok { OnOk result (entities_of self.new ≡
             done key.now (deeds.Queue deed) clock number (entities_of self.old)) }
         ensures err { OnErr result (entities_of self.new ≡ entities_of self.old) }
     {
-        let queue = done_to_queue(deed, clock, self.queue(key));
+        let place = self.queues.place(key);
+        let was = self.queues.value_at(place, Queue::new());
+        let queue = done_to_queue(deed, clock, was);
         match deed {
             QueueDeed::Queue { .. } => {
                 let coming = self.comings.reserve(key)?;
-                self.queues.put(key, queue)?;
+                self.queues.put_at(key, place, queue)?;
                 self.comings.add(number, coming);
                 Ok(())
             }
-            QueueDeed::Depart { .. } => self.queues.put(key, queue),
+            QueueDeed::Depart { .. } => self.queues.put_at(key, place, queue),
         }
     }
 

@@ -14,15 +14,16 @@ use gw_names::Key;
 use std::alloc::AllocError;
 
 impl Parts {
-    // Makes room to let in those of the delay chain of a key whom a deed lets in. Room for so many others stays on the
-    // current chain. Nobody moves.
-    #[inline(never)]
+    // Makes room to let in those of the delay chain of a key whom a deed lets in, beside that for so many others which is
+    // there. Nobody moves.
+    #[inline(always)]
     pub fn reserve_to_admit(
         &mut self,
         key: &Key,
         deed: &Deed,
         others: usize,
     ) -> Result<(), AllocError>
+        requires { others ≤ self.old.current.room }
         ensures ok { OnOk result (HasRoomToAdmit key.now deed.now self.new.delays (self.new.current.room - others)
             self.new.counts.limit) }
         ensures others { OnOk result (others ≤ self.new.current.room) }
@@ -39,12 +40,12 @@ impl Parts {
             Deed::Storage(StorageDeed::Leave { shares, .. }) => {
                 self.reserve_some(key, shares.as_slice(), others)
             }
-            _ => self.current.reserve(others),
+            _ => Ok(()),
         }
     }
 
     // Room to let in the first of the delay chain of a facility.
-    #[inline(always)]
+    #[inline(never)]
     fn reserve_first(&mut self, key: &Key, others: usize) -> Result<(), AllocError>
         ensures ok { OnOk result (HasRoomToLetIn (first_of (delay_at (delays_of self.new.delays) key.now))
             (self.new.current.room - others) self.new.counts.limit) }
@@ -64,6 +65,7 @@ impl Parts {
     }
 
     // Room to let in those of the delay chain of a storage who have a share. The chain stays as it is.
+    #[inline(never)]
     fn reserve_some(
         &mut self,
         key: &Key,
@@ -98,7 +100,7 @@ impl Parts {
 
     // Those of the delay chain of a key whom a deed lets in go to the current chain, one by one from the front: of a
     // facility the first, of a storage each with a share.
-    #[inline(never)]
+    #[inline(always)]
     pub fn admit(&mut self, key: &Key, deed: &Deed)
         requires { HasRoomToAdmit key.now deed.now self.old.delays self.old.current.room self.old.counts.limit }
         ensures admitted { machine_of self.new ≡ admitted key.now deed.now (machine_of self.old) }
@@ -112,13 +114,32 @@ impl Parts {
         match deed {
             Deed::Facility(FacilityDeed::Release { .. }) => self.admit_first(key),
             Deed::Storage(StorageDeed::Leave { shares, .. }) => {
-                let shares = shares.as_slice();
-                let current = &mut self.current;
-                self.delays
-                    .let_in_some(key, shares, current, &mut self.counts);
+                self.admit_some(key, shares.as_slice());
             }
             _ => (),
         }
+    }
+
+    // Those of the delay chain of a storage who have a share are let in.
+    #[inline(never)]
+    fn admit_some(&mut self, key: &Key, shares: &[Option<u64>])
+        requires room { HasRoomToLetAllIn (with_share shares.now (delay_at (delays_of self.old.delays) key.now))
+            self.old.current.room self.old.counts.limit }
+        requires going { length (with_share shares.now (delay_at (delays_of self.old.delays) key.now)) ≤
+            room_of (value_of self.old.delays key.now) }
+        ensures admitted { machine_of self.new ≡ some_let_in key.now shares.now []
+            (delay_at (delays_of self.old.delays) key.now) (machine_of self.old) }
+        ensures room { self.old.current.room ≤ self.new.current.room +
+            length (with_share shares.now (delay_at (delays_of self.old.delays) key.now)) }
+        ensures rest { self.new ≡ record self.old {
+          current = self.new.current;
+          delays = self.new.delays;
+          counts = self.new.counts;
+        } }
+    {
+        let current = &mut self.current;
+        self.delays
+            .let_in_some(key, shares, current, &mut self.counts);
     }
 
     // The first of the delay chain of a facility is let in, where somebody waits.

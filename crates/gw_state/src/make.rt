@@ -33,7 +33,7 @@ impl Parts {
                 self.clear(alloc);
                 Ok(())
             }
-            Move::Enter { id, change, fate } => self.enter(alloc, id, &change, &fate),
+            Move::Enter { id, change, fate } => self.enter(alloc, id, change, fate),
             Move::Refuse { id, key, units } => self.refuse(id, &key, units),
             Move::Watch { read } => self.watch(read),
             Move::Pick => {

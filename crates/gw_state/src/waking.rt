@@ -1,78 +1,208 @@
 // What a block that is entered writes, for those who wait for a change.
-ghost use Rattle.std.specs.Prelude.{◌≡◌, ◌++◌, Some, IfOk, OnOk, option_copied};
-ghost use Rattle.gw_chains.specs.Chains.{items_of};
-ghost use Rattle.gw_meaning.specs.Changes.{crossing, crossings, deed_shares, written_by, written_in, woken};
-ghost use Rattle.gw_meaning.specs.Machine.{Machine};
+ghost use Rattle.std.specs.Prelude.{◌≡◌, ◌++◌, ◌∷◌, ◌<◌, ◌≤◌, option_copied, IfOk, OnOk};
+ghost use Rattle.gw_meaning.specs.declared.watched.Watched.TheVariants as watched;
+ghost use Rattle.gw_meaning.specs.Changes.{crossing, crossings, deed_shares, woken};
+ghost use Rattle.gw_meaning.specs.Machine.{delay_at};
 ghost use Rattle.gw_meaning.specs.Watching.{kind_of};
+ghost use Rattle.gw_chains.specs.Chains.{delays_of, items_of};
 ghost use Rattle.gw_state.specs.States.{machine_of};
+ghost use Rattle.gw_state.specs.Waking.{WakesAs, HasRoomToWake, crossed_by, count_woken};
 
 use crate::parts::Parts;
 use gw_chains::{PriorityChain, has_share};
-use gw_meaning::{
-    Change, Deed, EntityChange, EntityKind, FacilityDeed, Fate, StatementId, StorageDeed,
-    Transaction, Watched,
-};
+use gw_meaning::{Deed, EntityKind, FacilityDeed, StatementId, StorageDeed, Transaction, Watched};
+use gw_names::Key;
 use std::alloc::{AllocError, Global};
+use std::marker::Model;
+
+// What is written, and how many wake by it. Where nobody waits for a change nothing is listed, since nobody wakes then.
+// The list lies apart, so that this takes little where there is none.
+#[derive(Drop)]
+pub struct Written {
+    list: Option<Box<Vec<Watched>>>,
+    count: usize,
+}
+
+impl Model for Written {
+    ghost use Rattle.std.specs.Prelude.{[], unwrap_or};
+    ghost use Rattle.std.specs.Option.{option_map};
+    ghost use Rattle.gw_state.specs.Waking.{Wake};
+
+    ghost Value = { Wake };
+
+    ghost view = { λ w. record {
+      things = unwrap_or (option_map (λ b. b.value.items) w.list) [];
+      count = w.count;
+    } };
+}
+
+impl Written {
+    // How many wake.
+    #[inline(always)]
+    pub fn count(&self) -> usize
+        ensures { result ≡ self.now.count }
+    {
+        self.count
+    }
+}
 
 impl Parts {
-    // What is written where the active transaction enters a block; nothing where nobody waits for a change.
+    // What is written where a transaction goes from a block to another. Room is made to count it there, and for those
+    // who wake. Nobody moves.
     #[inline(always)]
-    pub fn to_wake(
-        &self,
+    pub fn prepare(
+        &mut self,
         alloc: Global,
-        x: &Transaction,
-        id: StatementId,
-        change: &Change,
-        fate: &Fate,
-    ) -> Result<Vec<Watched>, AllocError>
-        ensures { IfOk result (λ list. (s : Machine) → s.retry ≡ self.now.retry.waiters → woken list.items s ≡
-            woken (crossing x.now (Some id) ++
-            (written_by change.now (machine_of self.now) ++ written_in fate.now)) s) }
+        from: StatementId,
+        to: StatementId,
+    ) -> Result<Written, AllocError>
+        ensures wakes { IfOk result (λ w. WakesAs self.old.retry.waiters w.things (crossed_by from to)) }
+        ensures room { IfOk result (λ w. HasRoomToWake w self.new.retry.waiters self.new.retry.room
+            self.new.current.room) }
+        ensures block { OnOk result (to < self.new.counts.limit) }
+        ensures same { machine_of self.new ≡ machine_of self.old }
+        ensures rest { self.new ≡ record self.old {
+          current = self.new.current;
+          retry = self.new.retry;
+          counts = self.new.counts;
+        } }
     {
+        self.counts.reserve(to)?;
         if self.retry.is_empty() {
-            return Ok(Vec::new(alloc));
+            return Ok(Written {
+                list: None,
+                count: 0,
+            });
         }
-        let mut written = self.written(alloc, x, id, change)?;
-        if let Fate::Linked { key, .. } = fate {
-            written.push(Watched::Entity(EntityKind::UserChain, key.clone()?))?;
-        }
-        Ok(written)
+        self.list_written(alloc, from, to)
     }
 
-    // What is written there, but for the user chain to which the transaction is linked.
-    fn written(
-        &self,
+    // The same, where the entity with a key changes too, and those of its delay chain with a share enter their blocks.
+    #[inline(always)]
+    pub fn prepare_with(
+        &mut self,
         alloc: Global,
-        x: &Transaction,
-        id: StatementId,
-        change: &Change,
-    ) -> Result<Vec<Watched>, AllocError>
-        ensures { IfOk result (λ list.
-            list.items ≡ crossing x.now (Some id) ++ written_by change.now (machine_of self.now)) }
+        from: StatementId,
+        to: StatementId,
+        kind: EntityKind,
+        key: &Key,
+        shares: &[Option<u64>],
+    ) -> Result<Written, AllocError>
+        ensures wakes { IfOk result (λ w. WakesAs self.old.retry.waiters w.things (crossed_by from to ++
+            (watched.Entity kind key.now ∷ crossings shares.now (delay_at (delays_of self.old.delays) key.now)))) }
+        ensures room { IfOk result (λ w. HasRoomToWake w self.new.retry.waiters self.new.retry.room
+            self.new.current.room) }
+        ensures block { OnOk result (to < self.new.counts.limit) }
+        ensures same { machine_of self.new ≡ machine_of self.old }
+        ensures rest { self.new ≡ record self.old {
+          current = self.new.current;
+          retry = self.new.retry;
+          counts = self.new.counts;
+        } }
     {
-        let mut written = Vec::new(alloc);
-        push_crossing(&mut written, x, Some(id))?;
-        match change {
-            Change::Entity(EntityChange { key, deed }) => {
-                written.push(Watched::Entity(kind_of(deed), key.clone()?))?;
-                let chain = self.delays.chain(key);
-                push_admitted(&mut written, deed, chain)?;
-            }
-            Change::Unlink { key, .. } => {
-                written.push(Watched::Entity(EntityKind::UserChain, key.clone()?))?;
-            }
-            Change::Nothing
-            | Change::Generate { .. }
-            | Change::Transaction(_)
-            | Change::Split { .. } => (),
+        self.counts.reserve(to)?;
+        if self.retry.is_empty() {
+            return Ok(Written {
+                list: None,
+                count: 0,
+            });
         }
-        Ok(written)
+        self.list_written_with(alloc, from, to, kind, key, shares)
     }
+
+    #[cold]
+    #[inline(never)]
+    fn list_written(
+        &mut self,
+        alloc: Global,
+        from: StatementId,
+        to: StatementId,
+    ) -> Result<Written, AllocError>
+        ensures things { IfOk result (λ w. w.things ≡ crossed_by from to) }
+        ensures room { IfOk result (λ w. HasRoomToWake w self.new.retry.waiters self.new.retry.room
+            self.new.current.room) }
+        ensures same { machine_of self.new ≡ machine_of self.old }
+        ensures rest { self.new ≡ record self.old { current = self.new.current; retry = self.new.retry } }
+    {
+        let list = crossed(alloc, from, to)?;
+        self.reserve_to_wake(alloc, list)
+    }
+
+    #[cold]
+    #[inline(never)]
+    fn list_written_with(
+        &mut self,
+        alloc: Global,
+        from: StatementId,
+        to: StatementId,
+        kind: EntityKind,
+        key: &Key,
+        shares: &[Option<u64>],
+    ) -> Result<Written, AllocError>
+        ensures things { IfOk result (λ w. w.things ≡ crossed_by from to ++
+            (watched.Entity kind key.now ∷ crossings shares.now (delay_at (delays_of self.old.delays) key.now))) }
+        ensures room { IfOk result (λ w. HasRoomToWake w self.new.retry.waiters self.new.retry.room
+            self.new.current.room) }
+        ensures same { machine_of self.new ≡ machine_of self.old }
+        ensures rest { self.new ≡ record self.old { current = self.new.current; retry = self.new.retry } }
+    {
+        let mut list = crossed(alloc, from, to)?;
+        list.push(Watched::Entity(kind, key.clone()?))?;
+        push_admitted(&mut list, shares, self.delays.chain(key))?;
+        self.reserve_to_wake(alloc, list)
+    }
+
+    // Makes room for those who wake by what is written. Nobody moves.
+    fn reserve_to_wake(&mut self, alloc: Global, list: Vec<Watched>) -> Result<Written, AllocError>
+        ensures things { IfOk result (λ w. w.things ≡ list.items) }
+        ensures room { IfOk result (λ w. HasRoomToWake w self.new.retry.waiters self.new.retry.room
+            self.new.current.room) }
+        ensures same { machine_of self.new ≡ machine_of self.old }
+        ensures rest { self.new ≡ record self.old { current = self.new.current; retry = self.new.retry } }
+    {
+        let count = self.retry.reserve(list.as_slice())?;
+        self.current.reserve(count)?;
+        Ok(Written {
+            list: Some(Box::new(alloc, list)?),
+            count,
+        })
+    }
+
+    // Those who wait for something that was written line up on the current chain.
+    #[inline(always)]
+    pub fn wake(&mut self, written: &Written)
+        requires { HasRoomToWake written.now self.old.retry.waiters self.old.retry.room self.old.current.room }
+        ensures { machine_of self.new ≡ woken written.now.things (machine_of self.old) }
+    {
+        if let Some(list) = &written.list {
+            self.wake_by(list.as_slice());
+        }
+    }
+
+    #[cold]
+    #[inline(never)]
+    fn wake_by(&mut self, written: &[Watched])
+        requires going { count_woken written.now self.old.retry.waiters ≤ self.old.retry.room }
+        requires current { count_woken written.now self.old.retry.waiters ≤ self.old.current.room }
+        ensures { machine_of self.new ≡ woken written.now (machine_of self.old) }
+    {
+        self.retry.wake(written, &mut self.current);
+    }
+}
+
+// The counts of the block that a transaction leaves, and of the one to which it goes.
+fn crossed(alloc: Global, from: StatementId, to: StatementId) -> Result<Vec<Watched>, AllocError>
+    ensures { IfOk result (λ list. list.items ≡ crossed_by from to) }
+{
+    let mut list = Vec::new(alloc);
+    list.push(Watched::Counts(from))?;
+    list.push(Watched::Counts(to))?;
+    Ok(list)
 }
 
 // The kind of the entity that a deed changes.
 #[inline(always)]
-fn kind_of(deed: &Deed) -> EntityKind
+pub fn kind_of(deed: &Deed) -> EntityKind
     ensures { result ≡ kind_of deed.now }
 {
     match deed {
@@ -85,7 +215,19 @@ fn kind_of(deed: &Deed) -> EntityKind
     }
 }
 
-// The counts of the block that a transaction leaves, and of the one to which it goes.
+// The shares of those of the delay chain whom a deed lets in.
+#[inline(always)]
+pub fn shares_of(deed: &Deed) -> &[Option<u64>]
+    ensures { result.now ≡ deed_shares deed.now }
+{
+    match deed {
+        Deed::Facility(FacilityDeed::Release { .. }) => &[Some(1)],
+        Deed::Storage(StorageDeed::Leave { shares, .. }) => shares.as_slice(),
+        _ => &[],
+    }
+}
+
+// The counts that a transaction changes where it goes to a block.
 fn push_crossing(
     written: &mut Vec<Watched>,
     x: &Transaction,
@@ -100,26 +242,18 @@ fn push_crossing(
     Ok(())
 }
 
-// The counts that those of a delay chain change whom a deed lets in.
+// The counts that those of a delay chain change who have a share, where there is one.
 fn push_admitted(
     written: &mut Vec<Watched>,
-    deed: &Deed,
+    shares: &[Option<u64>],
     chain: Option<&PriorityChain>,
 ) -> Result<(), AllocError>
     ensures { OnOk result (written.new.items ≡
-        written.old.items ++ crossings (deed_shares deed.now) (items_of (option_copied chain.entry))) }
+        written.old.items ++ crossings shares.now (items_of (option_copied chain.entry))) }
 {
-    let Some(chain) = chain else {
-        return Ok(());
-    };
-    match deed {
-        Deed::Facility(FacilityDeed::Release { .. }) => {
-            push_crossings(written, &[Some(1)], chain)
-        }
-        Deed::Storage(StorageDeed::Leave { shares, .. }) => {
-            push_crossings(written, shares.as_slice(), chain)
-        }
-        _ => Ok(()),
+    match chain {
+        Some(chain) => push_crossings(written, shares, chain),
+        None => Ok(()),
     }
 }
 

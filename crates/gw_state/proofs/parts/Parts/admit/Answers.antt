@@ -1,8 +1,0 @@
-use Rattle.std.proofs.Common.{rules}
-use Rattle.gw_state.specs.States.{machine_of}
-use Rattle.gw_state.proofs.parts.Parts.admit.Goals as goal
-
-pub returns-in-Storage-Leave-clause-admitted : goal.returns-in-Storage-Leave-clause-admitted
-returns-in-Storage-Leave-clause-admitted c =
-    let h = c.let_in_some.ensures.let_in (machine_of c.args.self.now) in
-    search (rules, h)

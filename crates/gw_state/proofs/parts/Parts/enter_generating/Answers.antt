@@ -1,0 +1,31 @@
+use Rattle.std.proofs.Common.{rules, ◌≡◌, Some, ap, ◌∙◌}
+use Rattle.gw_meaning.specs.declared.moves.Change.TheVariants as changes
+use Rattle.gw_meaning.specs.declared.moves.Fate.TheVariants as fates
+use Rattle.gw_meaning.specs.declared.transaction_change.TransactionChange.TheVariants as own
+use Rattle.gw_meaning.specs.Changes.{placed, own_marked, crossed, arrived, entering, woken}
+use Rattle.gw_meaning.specs.Machine.{Machine}
+use Rattle.gw_state.specs.declared.parts.Parts.{Parts}
+use Rattle.gw_state.specs.States.{machine_of}
+use Rattle.gw_state.proofs.Quiet.{not_entered}
+use Rattle.gw_state.proofs.Kept.{entered_is}
+use Rattle.gw_state.proofs.parts.Parts.enter_generating.Goals as goal
+
+pub returns-in_default-clause-ok : goal.returns-in_default-clause-ok
+returns-in_default-clause-ok c = not_entered (machine_of c.args.self.now) c.args.id (changes.Generate c.args.next) fates.Active (search rules)
+
+pub returns-clause-ok : goal.returns-clause-ok
+returns-clause-ok c =
+    let s = machine_of c.args.self.now in
+    let x = c.in-Some.x.now in
+    let active : s.active ≡ Some x = search rules in
+    let list = c.in_ok-written.written.things in
+    let m : Machine = record s {
+      counts = crossed fates.Active s.counts x.current c.args.id;
+      active = Some (own_marked own.Mark s.clock (placed x c.args.id));
+    } in
+    let q : Parts = record c.cross.new.self { active = Some (record c.placed.result { mark = c.time.result }) } in
+    let is : machine_of q ≡ m = search rules in
+    let p : Parts = c.create_next.new.self in
+    let before : machine_of p ≡ entering s x c.args.id (changes.Generate c.args.next) fates.Active =
+    c.create_next.ensures.arrived ∙ ap (arrived c.args.next) is in
+    entered_is s _ x c.args.id (changes.Generate c.args.next) fates.Active list active c.in_ok-written.ensures.wakes (c.wake.ensures ∙ ap (woken list) before)

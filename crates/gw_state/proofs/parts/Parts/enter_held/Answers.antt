@@ -1,0 +1,22 @@
+use Rattle.std.proofs.Common.{rules, ◌≡◌, Some, None, ap, ◌∙◌}
+use Rattle.gw_meaning.specs.declared.moves.Change.TheVariants as changes
+use Rattle.gw_meaning.specs.declared.moves.Fate.TheVariants as fates
+use Rattle.gw_meaning.specs.Changes.{entering, woken}
+use Rattle.gw_state.specs.declared.parts.Parts.{Parts}
+use Rattle.gw_state.specs.States.{machine_of}
+use Rattle.gw_state.proofs.Quiet.{not_entered}
+use Rattle.gw_state.proofs.Kept.{entered_is}
+use Rattle.gw_state.proofs.parts.Parts.enter_held.Goals as goal
+
+pub returns-in_default-clause-ok : goal.returns-in_default-clause-ok
+returns-in_default-clause-ok c = not_entered (machine_of c.args.self.now) c.args.id changes.Nothing (fates.Delayed c.args.until) (search rules)
+
+pub returns-clause-ok : goal.returns-clause-ok
+returns-clause-ok c =
+    let s = machine_of c.args.self.now in
+    let x = c.in-Some.x.now in
+    let active : s.active ≡ Some x = search rules in
+    let list = c.in_ok-written.written.things in
+    let p : Parts = record c.cross.new.self { active = None; future = c.put.new.self } in
+    let before : machine_of p ≡ entering s x c.args.id changes.Nothing (fates.Delayed c.args.until) = search rules in
+    entered_is s _ x c.args.id changes.Nothing (fates.Delayed c.args.until) list active c.in_ok-written.ensures.wakes (c.wake.ensures ∙ ap (woken list) before)
