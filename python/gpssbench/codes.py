@@ -53,6 +53,8 @@ def said(code: str, cure: str | None = None) -> list[str]:
     if cure is not None and code.startswith("L"):
         return [f"{code}: {cure}"]
     what, general = meaning(code)
+    if number := re.search(r"[0-9]+", code.partition(" ")[2]):
+        what = re.sub(r"\bn\b", number[0], what)
     todo = general if cure is None else cure
     return [f"{code}: {what}.", *([f"What to do: {plain(todo)}"] if todo else [])]
 
@@ -209,6 +211,8 @@ def line_fault(code: str, text: str) -> list[str]:
     line = f"The line is `{shown(text.strip())}`."
     if place:
         name, word = operand(text, int(place[0]))
+        # a missing operand has no text
+        word = "" if code.startswith("L6") else word
         line = line[:-1] + f", and in it {name}{f', `{shown(word)}`' if word else ''}."
     cure = None
     if code == "L3":
