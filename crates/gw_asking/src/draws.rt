@@ -7,8 +7,8 @@ ghost use Rattle.gw_meaning.specs.Evaluation.{draw, in_range, millionths, modifi
 ghost use Rattle.gw_asking.specs.Deciding.{Decides, Comes};
 ghost use Rattle.gw_asking.specs.Noted.{Asks};
 
-use crate::case::Case;
 use crate::notes::Notes;
+use crate::run::Run;
 use gw_expr::{Atom, Expr, Halt, Node, Stop, Subject, is_of_function};
 use gw_meaning::Item;
 use gw_nums::{Millionths, Val, times};
@@ -16,13 +16,13 @@ use std::alloc::AllocError;
 
 /// A draw from stream j, which reads the seed where it is the first one since the stream was set.
 #[inline(always)]
-pub fn draw(case: Case, notes: &mut Notes, j: usize) -> Result<u32, Halt>
-    ensures { Decides case.entry.version.now case.entry.seed (draw j) result notes.old notes.new }
+pub fn draw(run: Run, notes: &mut Notes, j: usize) -> Result<u32, Halt>
+    ensures { Decides run.entry.version.now run.entry.seed (draw j) result notes.old notes.new }
 {
     if notes.streams.wants_seed(j) {
         ask_seed(notes)?;
     }
-    Ok(notes.streams.draw(j, case.seed))
+    Ok(notes.streams.draw(j, run.seed))
 }
 
 // What is the seed? A stream asks at its first draw alone.
@@ -67,24 +67,24 @@ pub fn multiplied(mean: Val, by: Millionths) -> Result<Val, Halt>
 /// A time of mean plus or minus range, which is drawn from stream 1 where the range is above 0. A range below 0 counts
 /// as a time below 0.
 #[inline(always)]
-pub fn sample(case: Case, notes: &mut Notes, mean: Val, range: Val) -> Result<Val, Halt>
-    ensures { Decides case.entry.version.now case.entry.seed (sample mean range) result notes.old notes.new }
+pub fn sample(run: Run, notes: &mut Notes, mean: Val, range: Val) -> Result<Val, Halt>
+    ensures { Decides run.entry.version.now run.entry.seed (sample mean range) result notes.old notes.new }
 {
     if range.is_negative() {
         return Ok(range);
     }
-    sample_within(case, notes, mean, range.magnitude())
+    sample_within(run, notes, mean, range.magnitude())
 }
 
 #[inline(always)]
-fn sample_within(case: Case, notes: &mut Notes, mean: Val, range: u64) -> Result<Val, Halt>
+fn sample_within(run: Run, notes: &mut Notes, mean: Val, range: u64) -> Result<Val, Halt>
     requires { range ≤ 1000000000 }
-    ensures { Decides case.entry.version.now case.entry.seed (sample_within mean range) result notes.old notes.new }
+    ensures { Decides run.entry.version.now run.entry.seed (sample_within mean range) result notes.old notes.new }
 {
     if range == 0 {
         return Ok(mean);
     }
-    let number = draw(case, notes, 1)?;
+    let number = draw(run, notes, 1)?;
     match spread(mean, range, number) {
         Some(time) => Ok(time),
         None => Err(Halt::stop(Stop::Range)),

@@ -262,7 +262,7 @@ impl<N: RowName> Held<N> {
         ensures count { IfOk result (λ count. IsCount (version_of N.opening pass.new) rep (Some count)) }
     {
         self.take_in(alloc, row, pass)?;
-        self.desk.is_book();
+        self.desk.lemma_is_book();
         Ok(self.desk.recorded(rep))
     }
 }

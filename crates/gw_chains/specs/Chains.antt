@@ -49,22 +49,22 @@ abbrev pub HasRoomToLetIn : Option Transaction → ℕ → ℕ → Type 0
 HasRoomToLetIn None room limit = Unit {0}
 HasRoomToLetIn (Some x) room limit = (0 < room) × IsWithin x.destination limit
 
--- whether the one at an index of a chain has a share
-abbrev pub has_share : List (Option ℕ) → ℕ → Bool
-has_share shares index = unwrap_or (option_map (λ (share : Option ℕ). is_some share) (slice_get shares index)) false
+-- whether the one at an index of a chain has a grant
+abbrev pub has_grant : List (Option ℕ) → ℕ → Bool
+has_grant grants index = unwrap_or (option_map (λ (grant : Option ℕ). is_some grant) (slice_get grants index)) false
 
--- of a chain those with a share, and those who go on waiting
-abbrev pub with_share : List (Option ℕ) → List Transaction → List Transaction
-with_share [] chain = []
-with_share (share ∷ shares) [] = []
-with_share (None ∷ shares) (x ∷ xs) = with_share shares xs
-with_share (Some units ∷ shares) (x ∷ xs) = x ∷ with_share shares xs
+-- of a chain those with a grant, and those who go on waiting
+abbrev pub with_grant : List (Option ℕ) → List Transaction → List Transaction
+with_grant [] chain = []
+with_grant (grant ∷ grants) [] = []
+with_grant (None ∷ grants) (x ∷ xs) = with_grant grants xs
+with_grant (Some units ∷ grants) (x ∷ xs) = x ∷ with_grant grants xs
 
-abbrev pub without_share : List (Option ℕ) → List Transaction → List Transaction
-without_share [] chain = chain
-without_share (share ∷ shares) [] = []
-without_share (None ∷ shares) (x ∷ xs) = x ∷ without_share shares xs
-without_share (Some units ∷ shares) (x ∷ xs) = without_share shares xs
+abbrev pub without_grant : List (Option ℕ) → List Transaction → List Transaction
+without_grant [] chain = chain
+without_grant (grant ∷ grants) [] = []
+without_grant (None ∷ grants) (x ∷ xs) = x ∷ without_grant grants xs
+without_grant (Some units ∷ grants) (x ∷ xs) = without_grant grants xs
 
 -- there is room for all of these to be let in
 abbrev pub AreWithin : List Transaction → ℕ → Type 0

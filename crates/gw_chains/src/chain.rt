@@ -3,7 +3,7 @@ ghost use Rattle.std.specs.Prelude.{OnOk, IsTrue, ◌∷◌, ◌^◌};
 ghost use Rattle.std.specs.Slice.{IsItemAt};
 ghost use Rattle.gw_meaning.specs.Machine.{Machine};
 ghost use Rattle.gw_meaning.specs.Changes.{lined_up};
-ghost use Rattle.gw_chains.specs.Chains.{with_share, without_share, has_share, HasRoomToLetAllIn, all_let_in};
+ghost use Rattle.gw_chains.specs.Chains.{with_grant, without_grant, has_grant, HasRoomToLetAllIn, all_let_in};
 
 use crate::counts::Counts;
 use crate::entering::let_in;
@@ -147,25 +147,25 @@ impl PriorityChain {
         self.transactions.pop_front()
     }
 
-    // Each with a share is let in, one by one from the front. The others stay in their order.
+    // Each with a grant is let in, one by one from the front. The others stay in their order.
     pub(crate) fn let_in_some(
         &mut self,
-        shares: &[Option<u64>],
+        grants: &[Option<u64>],
         current: &mut PriorityChain,
         counts: &mut Counts,
     )
-        requires room { HasRoomToLetAllIn (with_share shares.now self.old.items) current.old.room counts.old.limit }
-        requires going { length (with_share shares.now self.old.items) ≤ self.old.room }
-        ensures items { self.new.items ≡ without_share shares.now self.old.items }
+        requires room { HasRoomToLetAllIn (with_grant grants.now self.old.items) current.old.room counts.old.limit }
+        requires going { length (with_grant grants.now self.old.items) ≤ self.old.room }
+        ensures items { self.new.items ≡ without_grant grants.now self.old.items }
         ensures let_in { (s : Machine) →
             record s { current = current.new.items; counts = counts.new.entries } ≡
-            all_let_in (with_share shares.now self.old.items)
+            all_let_in (with_grant grants.now self.old.items)
             (record s { current = current.old.items; counts = counts.old.entries }) }
-        ensures room { current.old.room ≤ current.new.room + length (with_share shares.now self.old.items) }
+        ensures room { current.old.room ≤ current.new.room + length (with_grant grants.now self.old.items) }
     {
         let mut kept = 0;
-        for i in 0..self.transactions.len().min(shares.len()) {
-            if has_share(shares, i) {
+        for i in 0..self.transactions.len().min(grants.len()) {
+            if has_grant(grants, i) {
                 let x = self.transactions.remove(kept);
                 let_in(current, counts, x);
             } else {
@@ -192,12 +192,12 @@ impl PriorityChain {
     }
 }
 
-/// Whether the one at an index of a chain has a share.
-pub fn has_share(shares: &[Option<u64>], index: usize) -> bool
-    ensures { result ≡ has_share shares.now index }
+/// Whether the one at an index of a chain has a grant.
+pub fn has_grant(grants: &[Option<u64>], index: usize) -> bool
+    ensures { result ≡ has_grant grants.now index }
 {
-    match shares.get(index) {
-        Some(share) => share.is_some(),
+    match grants.get(index) {
+        Some(grant) => grant.is_some(),
         None => false,
     }
 }

@@ -7,7 +7,7 @@ ghost use Rattle.gw_names.specs.Keys.{key_eq};
 ghost use Rattle.gw_entities.specs.Tables.{value_of, with_value};
 ghost use Rattle.gw_meaning.specs.Changes.{lined_up, some_let_in};
 ghost use Rattle.gw_meaning.specs.Machine.{Machine, delay_at, waiting};
-ghost use Rattle.gw_chains.specs.Chains.{delays_of, items_of, room_of, first_of, without_first, with_share};
+ghost use Rattle.gw_chains.specs.Chains.{delays_of, items_of, room_of, first_of, without_first, with_grant};
 ghost use Rattle.gw_chains.specs.Chains.{HasRoomToLetAllIn};
 ghost use Rattle.gw_chains.specs.Delays.{queues_of, chains_of};
 
@@ -181,35 +181,35 @@ impl DelayChains {
         }
     }
 
-    /// Of those who wait for a storage each with a share is let in.
+    /// Of those who wait for a storage each with a grant is let in.
     #[inline(always)]
     pub fn let_in_some(
         &mut self,
         key: &Key,
-        shares: &[Option<u64>],
+        grants: &[Option<u64>],
         current: &mut PriorityChain,
         counts: &mut Counts,
     )
-        requires room { HasRoomToLetAllIn (with_share shares.now (delay_at (delays_of self.old) key.now))
+        requires room { HasRoomToLetAllIn (with_grant grants.now (delay_at (delays_of self.old) key.now))
             current.old.room counts.old.limit }
-        requires going { length (with_share shares.now (delay_at (delays_of self.old) key.now)) ≤
+        requires going { length (with_grant grants.now (delay_at (delays_of self.old) key.now)) ≤
             room_of (value_of self.old key.now) }
         ensures let_in { (s : Machine) →
             record s { delays = delays_of self.new; current = current.new.items; counts = counts.new.entries } ≡
-            some_let_in key.now shares.now [] (delay_at (delays_of self.old) key.now) (record s {
+            some_let_in key.now grants.now [] (delay_at (delays_of self.old) key.now) (record s {
               delays = delays_of self.old;
               current = current.old.items;
               counts = counts.old.entries;
             }) }
         ensures room { current.old.room ≤ current.new.room +
-            length (with_share shares.now (delay_at (delays_of self.old) key.now)) }
+            length (with_grant grants.now (delay_at (delays_of self.old) key.now)) }
     {
         let Some(index) = self.place(key) else {
             return;
         };
         let chain = &mut self.chains[index];
         let before = chain.len();
-        chain.let_in_some(shares, current, counts);
+        chain.let_in_some(grants, current, counts);
         let gone = before - chain.len();
         self.count -= gone;
     }

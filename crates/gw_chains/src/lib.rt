@@ -13,7 +13,7 @@ mod future;
 mod linked;
 mod user_chain;
 
-pub use chain::{PriorityChain, has_share};
+pub use chain::{PriorityChain, has_grant};
 pub use counts::Counts;
 pub use delays::DelayChains;
 pub use entering::{let_in, place};

@@ -127,7 +127,7 @@ impl Desk {
     }
 
     /// A desk keeps this by its type: a law, which does nothing.
-    pub fn is_book(&self)
+    pub fn lemma_is_book(&self)
         ensures { IsBook self.now }
     {
         let _ = &self.runs;

@@ -68,7 +68,7 @@ impl Desk {
             AreRight IsPrinted self.old.version (length self.old.edits) events.items replies.items) }
         ensures err { OnErr result (self.new ≡ self.old) }
     {
-        self.is_book();
+        self.lemma_is_book();
         let mut replies = Vec::with_capacity(alloc, events.len())?;
         let mut legs = no_legs(alloc)?;
         for event in events {
@@ -131,7 +131,7 @@ impl Desk {
         ensures gone { leg.new ≡ None }
         ensures desk { IsBook self.new }
     {
-        self.is_book();
+        self.lemma_is_book();
         let Some(own) = leg.take() else {
             return Reply::Idle;
         };

@@ -31,7 +31,7 @@ impl Desk {
         ensures err { OnErr result (self.new ≡ self.old) }
         ensures desk { IsBook self.new }
     {
-        self.is_book();
+        self.lemma_is_book();
         if !same_version(&leg.opening, &self.opening) {
             drop(leg);
             return Ok(Post::Dropped);
@@ -46,7 +46,7 @@ impl Desk {
         ensures err { OnErr result (self.new ≡ self.old) }
         ensures desk { IsBook self.new }
     {
-        self.is_book();
+        self.lemma_is_book();
         leg.is_leg();
         if !self.is_home_of(&leg) {
             drop(leg);

@@ -20,7 +20,7 @@ impl Desk {
         ensures takes { IfOk result (Takes self.old rep) }
         ensures same { self.new ≡ self.old }
     {
-        self.is_book();
+        self.lemma_is_book();
         let Some(seed) = self.version.seed(rep) else {
             return Ok(None);
         };

@@ -14,7 +14,7 @@ impl Desk {
         ensures err { OnErr result (self.new ≡ self.old) }
         ensures desk { IsBook self.new }
     {
-        self.is_book();
+        self.lemma_is_book();
         let Some(mut leg) = self.take(alloc, rep)? else {
             return Ok(());
         };

@@ -14,7 +14,7 @@ use Rattle.gw_names.specs.declared.key.Key.TheVariants.{Num}
 use Rattle.gw_names.specs.Keys.{key_eq}
 use Rattle.gw_entities.specs.declared.own_list.Item.{Item}
 use Rattle.gw_entities.specs.Owned.{Entry, is_own, own_of, with_own, entry_of, AreKnown, AreRising, StandsAt, EndsAt}
-use Rattle.gw_entities.proofs.ComingLaws.{key_itself}
+use Rattle.gw_entities.proofs.QueueArrivalLaws.{key_itself}
 use Rattle.gw_entities.proofs.Lookups.{Some_same}
 use Rattle.gw_entities.proofs.OwnLaws.{set_is, put_is, rising_with}
 use Rattle.gw_entities.proofs.TableLaws.{key_eq_equiv}

@@ -1,7 +1,7 @@
 pub mod Anew
 pub mod Blocks
 pub mod Beside
-pub mod ComingLaws
+pub mod QueueArrivalLaws
 pub mod Entries
 pub mod Finding
 pub mod Inherited

@@ -7,7 +7,7 @@ use Rattle.std.proofs.lemmas.Bool.Decides.{nat_tests}
 use Rattle.gw_names.specs.declared.key.Key.{Key}
 use Rattle.gw_names.specs.Keys.{key_eq}
 use Rattle.gw_entities.specs.Owned.{Entry, is_own, own_of, with_own, without_own, AreBelow, AreFrom, AreRising, IsCut, StandsAt, EndsAt}
-use Rattle.gw_entities.proofs.ComingLaws.{key_same}
+use Rattle.gw_entities.proofs.QueueArrivalLaws.{key_same}
 use Rattle.gw_entities.proofs.Lookups.{Some_same}
 
 and_no : (a b : Bool) → b ≡ false → (a && b) ≡ false

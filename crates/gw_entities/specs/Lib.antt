@@ -1,4 +1,4 @@
-pub mod Comings
+pub mod QueueArrivals
 pub mod KeySets
 pub mod Levels
 pub mod Owned

@@ -2,12 +2,11 @@
 //!
 //! A [`Level`] is a content over time: its sum is exact, tick by tick. [`Facility`], [`Queue`] and [`Storage`] count
 //! what a report tells of them; each takes any change. [`ByKey`] keeps a value for each entity. [`Parameters`]
-//! keeps the parameters of transactions, [`Comings`] who came to which queue, and [`Tables`] the values of tables.
+//! keeps the parameters of transactions, [`QueueArrivals`] who came to which queue, and [`Tables`] the values of tables.
 //! [`KeySet`] finds keys by their hash. Copies of each share what did not change.
 #![tactic(auto)]
 
 mod by_key;
-mod comings;
 mod counted;
 mod facility;
 mod key_set;
@@ -17,13 +16,13 @@ mod level;
 mod own_list;
 mod parameters;
 mod queue;
+mod queue_arrivals;
 mod shared_keys;
 mod storage;
 mod tables;
 mod values;
 
 pub use by_key::ByKey;
-pub use comings::Comings;
 pub use counted::Counted;
 pub use facility::Facility;
 pub use key_set::KeySet;
@@ -31,6 +30,7 @@ pub use laws::sum_is_over_ticks;
 pub use level::Level;
 pub use parameters::Parameters;
 pub use queue::Queue;
+pub use queue_arrivals::QueueArrivals;
 pub use storage::Storage;
 pub use tables::Tables;
 pub use values::Values;

@@ -30,7 +30,7 @@ use Rattle.gw_meaning.specs.declared.watched.Watched.TheVariants as watched
 use Rattle.gw_meaning.specs.Listing.{Listing, argument_at, command_at, capacity_at, block_at, label_at, generates_in, is_generate}
 use Rattle.gw_meaning.specs.Numbers.{AreNumbered}
 use Rattle.gw_names.specs.declared.key.Key.{Key}
-use Rattle.gw_entities.specs.Comings.{came}
+use Rattle.gw_entities.specs.QueueArrivals.{came}
 use Rattle.gw_meaning.specs.Entities.{facility_at, line_at, savevalue_at}
 use Rattle.gw_meaning.specs.Machine.{Machine, raised, live, delay_at, user_chain_at}
 use Rattle.gw_meaning.specs.Questions.{result_of}
@@ -66,9 +66,9 @@ use Rattle.gw_frame.proofs.Seeds.{ReadsSeed, set_first}
 use Rattle.gw_frame.proofs.Lawful.{IsError, ProgLawful, Lawful, result_with, and_streams, all_with, prog_gives, prog_so, prog_bind, lawful_gives, lawful_end, lawful_ends, lawful_asks, lawful_asks_so, lawful_cond, lawful_stops, lawful_unless, lawful_bind, lawful_so}
 use Rattle.gw_names.specs.declared.key.Key.TheVariants as keys
 use Rattle.gw_meaning.specs.Entities.{store_at}
-use Rattle.gw_meaning.specs.Step.{beside, in_use, share_of, all_shares, enter_or_wait, enter_prog, shares_prog, leave_units, leave_prog}
+use Rattle.gw_meaning.specs.Step.{beside, in_use, grant_of, all_granted, enter_or_wait, enter_prog, grants_prog, leave_units, leave_prog}
 use Rattle.gw_frame.proofs.DecidedValues.{Twins, Decides, asks_named, Whatever, IsNoStorage, draw_decides, arithmetic_decides, value_decides, value_there_decides, value_or_zero_decides, entity_decides, units_decides, time_decides, with_one, value_traced_decides, entity_traced_decides, same}
-use Rattle.gw_frame.proofs.Known.{IsComing, IsComingIfAny, AreFirst, within_limit, leaves, does_fit, shares_of, ActiveOwns, IsDecidedFate, IsRefused, AreWatched, IsDecided, IsRead, IsAfter, LinksBy, never, WaitsAtVerb, WaitsAtBlock, LinksAtVerb, LinksAtBlock, IsTried, IsNext, NobodyMoves, IsStep, IsEnd, attempt_step, step_is_decided, IsDecidedChange, IsSentTo}
+use Rattle.gw_frame.proofs.Known.{IsQueueArrival, IsComingIfAny, AreFirst, within_limit, leaves, does_fit, grants_of, ActiveOwns, IsDecidedFate, IsRefused, AreWatched, IsDecided, IsRead, IsAfter, LinksBy, never, WaitsAtVerb, WaitsAtBlock, LinksAtVerb, LinksAtBlock, IsTried, IsNext, NobodyMoves, IsStep, IsEnd, attempt_step, step_is_decided, IsDecidedChange, IsSentTo}
 
 -- there are no more GENERATEs than statements
 few_generates : (lines : List Numbered) → length (generates_in lines) ≤ length lines
@@ -167,10 +167,10 @@ module _ (twins : Twins) where
   first_arrival_decides q id None is = lawful_gives refl tt
   first_arrival_decides q id (Some b) is = first_of_decides q id b (is_generate_verb b.verb) (inr (b, is))
 
-  with_arrival_coming : (a : Option Arrival) (made : List Arrival) → IsComingIfAny t s a → AllByRecursion (IsComing t s) made →
-      AllByRecursion (IsComing t s) (with_arrival a made)
+  with_arrival_coming : (a : Option Arrival) (made : List Arrival) → IsComingIfAny t s a → AllByRecursion (IsQueueArrival t s) made →
+      AllByRecursion (IsQueueArrival t s) (with_arrival a made)
   with_arrival_coming None made here all = all
-  with_arrival_coming (Some a) made here all = all_with (IsComing t s) made (a ∷ []) all (here, tt)
+  with_arrival_coming (Some a) made here all = all_with (IsQueueArrival t s) made (a ∷ []) all (here, tt)
 
   with_arrival_few : (a : Option Arrival) (made : List Arrival) → length (with_arrival a made) ≤ suc (length made)
   with_arrival_few None made = omega arith
@@ -182,7 +182,7 @@ module _ (twins : Twins) where
   with_arrival_moved (Some a) made = sym (map-append (moved_arrival move) made (a ∷ []))
 
   arrivals_decide : (q : Asker) (ids : List ℕ) (made : List Arrival) → (AreNumbered t.lines → AllByRecursion (IsBlockIn t.lines) ids) →
-      AllByRecursion (IsComing t s) made → length made + length ids ≤ length t.lines →
+      AllByRecursion (IsQueueArrival t s) made → length made + length ids ≤ length t.lines →
       Decides twins (map (moved_arrival move)) (AreFirst t s) (arrivals_prog s q ids made)
       (arrivals_prog twin q (map move ids) (map (moved_arrival move) made))
   arrivals_decide q [] made named all few = lawful_gives refl (record { coming = all; few = omega arith })
@@ -265,7 +265,7 @@ module _ (twins : Twins) where
     depart_decides q x entity units =
         lawful_bind _ (entity_decides twins q entity) (λ key h. lawful_bind _ (units_decides twins q units) (λ n k.
         let line = line_at s.entities key in
-        let at_once = came s.entities.comings key x.number in
+        let at_once = came s.entities.queue_arrivals key x.number in
         lawful_unless (at_once && is_too_many (line.zero_entries + n)) _
         (λ few. lawful_stops (nat_lt line.level.content n) _ (lawful_gives refl (refl, tt, leaves line n at_once few, tt)))))
 
@@ -315,19 +315,19 @@ module _ (twins : Twins) where
     enter_decides q (Some term) units = lawful_ends
     enter_decides q None units = lawful_ends
 
-    shares_decide : (name : List ℕ) (content : ℕ) (before : List (Option ℕ)) (chain : List Transaction) →
-        Decides twins same (λ shares. shares ≡ before ++ shares_of t name content chain) (shares_prog name content before chain)
-        (shares_prog name content before (map (moved_transaction move) chain))
-    shares_decide name content before [] = lawful_gives refl (sym (append-nil before))
-    shares_decide name content before (x ∷ xs) =
+    grants_decide : (name : List ℕ) (content : ℕ) (before : List (Option ℕ)) (chain : List Transaction) →
+        Decides twins same (λ grants. grants ≡ before ++ grants_of t name content chain) (grants_prog name content before chain)
+        (grants_prog name content before (map (moved_transaction move) chain))
+    grants_decide name content before [] = lawful_gives refl (sym (append-nil before))
+    grants_decide name content before (x ∷ xs) =
         let fits = does_fit t name (beside x.asked content) in
-        let rest = shares_of t name (in_use content x.asked fits) xs in
+        let rest = grants_of t name (in_use content x.asked fits) xs in
         asks_named twins (asking.Fits (beside x.asked content)) name
-        (subst (λ ys. Decides twins same (λ shares. shares ≡ ys)
-        (shares_prog name (in_use content x.asked fits) (before ++ share_of x.asked fits ∷ []) xs)
-        (shares_prog name (in_use content x.asked fits) (before ++ share_of x.asked fits ∷ []) (map (moved_transaction move) xs)))
-        (append_assoc before (share_of x.asked fits ∷ []) rest)
-        (shares_decide name (in_use content x.asked fits) (before ++ share_of x.asked fits ∷ []) xs))
+        (subst (λ ys. Decides twins same (λ grants. grants ≡ ys)
+        (grants_prog name (in_use content x.asked fits) (before ++ grant_of x.asked fits ∷ []) xs)
+        (grants_prog name (in_use content x.asked fits) (before ++ grant_of x.asked fits ∷ []) (map (moved_transaction move) xs)))
+        (append_assoc before (grant_of x.asked fits ∷ []) rest)
+        (grants_decide name (in_use content x.asked fits) (before ++ grant_of x.asked fits ∷ []) xs))
 
     leave_units_decides : (name : List ℕ) (units : ℕ) →
         Attempts (leave_units s id name (store_at s.entities (keys.Defined name)) units)
@@ -337,8 +337,8 @@ module _ (twins : Twins) where
         let content = store.level.content in
         rw (delay_at_moved move s.delays (keys.Defined name))
         (lawful_unless (nat_lt content units) _
-        (λ h. lawful_bind _ (shares_decide name (content - units) [] (delay_at s.delays (keys.Defined name)))
-        (λ shares is. lawful_unless (is_too_many (store.entries + all_shares shares)) _
+        (λ h. lawful_bind _ (grants_decide name (content - units) [] (delay_at s.delays (keys.Defined name)))
+        (λ grants is. lawful_unless (is_too_many (store.entries + all_granted grants)) _
         (λ few. lawful_gives refl
         (refl, tt, record { name = name; named = refl; in_use = not_over content units h; shared = is; entries = within_limit _ few }, tt)))))
 

@@ -6,11 +6,11 @@ use Rattle.gw_streams.specs.declared.stream.Stream.{Stream}
 use Rattle.gw_meaning.specs.declared.item.Item.{Item}
 use Rattle.gw_meaning.specs.declared.transaction.Transaction.{Transaction}
 use Rattle.gw_meaning.specs.declared.moves.Arrival.{Arrival}
-use Rattle.gw_meaning.specs.declared.entity_change.Deed.{Deed}
-use Rattle.gw_meaning.specs.declared.entity_change.Deed.TheVariants as deeds
-use Rattle.gw_meaning.specs.declared.entity_change.FacilityDeed.TheVariants as of_facility
-use Rattle.gw_meaning.specs.declared.entity_change.QueueDeed.TheVariants as of_queue
-use Rattle.gw_meaning.specs.declared.entity_change.StorageDeed.TheVariants as of_storage
+use Rattle.gw_meaning.specs.declared.entity_change.Update.{Update}
+use Rattle.gw_meaning.specs.declared.entity_change.Update.TheVariants as updates
+use Rattle.gw_meaning.specs.declared.entity_change.FacilityUpdate.TheVariants as of_facility
+use Rattle.gw_meaning.specs.declared.entity_change.QueueUpdate.TheVariants as of_queue
+use Rattle.gw_meaning.specs.declared.entity_change.StorageUpdate.TheVariants as of_storage
 use Rattle.gw_meaning.specs.declared.moves.Change.{Change}
 use Rattle.gw_meaning.specs.declared.moves.Change.TheVariants as changes
 use Rattle.gw_meaning.specs.declared.transaction_change.TransactionChange.{TransactionChange}
@@ -44,20 +44,20 @@ use Rattle.gw_meaning.specs.Listing.{capacity_at, command_at}
 use Rattle.gw_meaning.specs.declared.statement.Command.{Command}
 use Rattle.gw_meaning.specs.declared.statement.Command.TheVariants as commands
 use Rattle.gw_meaning.specs.Entities.{store_at}
-use Rattle.gw_meaning.specs.Step.{beside, in_use, share_of, all_shares}
+use Rattle.gw_meaning.specs.Step.{beside, in_use, grant_of, all_granted}
 
 -- what comes, comes to a block of the version and not before the clock
-pub record IsComing (t : Listing) (s : Machine) (a : Arrival) : Type 0 where
+pub record IsQueueArrival (t : Listing) (s : Machine) (a : Arrival) : Type 0 where
   pub ahead : s.clock ≤ a.time
   pub id : IsBlockId t a.id
 
 abbrev pub IsComingIfAny : Listing → Machine → Option Arrival → Type 0
 IsComingIfAny t s None = Unit {0}
-IsComingIfAny t s (Some a) = IsComing t s a
+IsComingIfAny t s (Some a) = IsQueueArrival t s a
 
 -- the first transactions of the GENERATEs
 pub record AreFirst (t : Listing) (s : Machine) (arrivals : List Arrival) : Type 0 where
-  pub coming : AllByRecursion (IsComing t s) arrivals
+  pub coming : AllByRecursion (IsQueueArrival t s) arrivals
   pub few : length arrivals ≤ length t.lines
 
 -- what comes to a queue and what leaves it at once stays within the limit of counts
@@ -79,11 +79,11 @@ leaves line units false h = λ is. absurd cc
 abbrev pub does_fit : Listing → List ℕ → ℕ → Bool
 does_fit t name units = nat_le units (capacity_at t name)
 
--- the shares of those who wait, from the front of a delay chain, beside so many units in use
-abbrev pub shares_of : Listing → List ℕ → ℕ → List Transaction → List (Option ℕ)
-shares_of t name content [] = []
-shares_of t name content (x ∷ xs) =
-    let fits = does_fit t name (beside x.asked content) in share_of x.asked fits ∷ shares_of t name (in_use content x.asked fits) xs
+-- the grants of those who wait, from the front of a delay chain, beside so many units in use
+abbrev pub grants_of : Listing → List ℕ → ℕ → List Transaction → List (Option ℕ)
+grants_of t name content [] = []
+grants_of t name content (x ∷ xs) =
+    let fits = does_fit t name (beside x.asked content) in grant_of x.asked fits ∷ grants_of t name (in_use content x.asked fits) xs
 
 -- a storage has room for units that come into use, and its entries stay within the limit of counts
 pub record ComesIn (t : Listing) (s : Machine) (key : Key) (units : ℕ) : Type 0 where
@@ -92,14 +92,14 @@ pub record ComesIn (t : Listing) (s : Machine) (key : Key) (units : ℕ) : Type 
   pub fits : does_fit t name (beside units (store_at s.entities key).level.content) ≡ true
   pub entries : (store_at s.entities key).entries + units ≤ 1000000000
 
--- a storage has the units in use that are given back, and those who wait have the shares that fit; its entries stay
+-- a storage has the units in use that are given back, and those who wait have the grants that fit; its entries stay
 -- within the limit of counts
-pub record GoesOut (t : Listing) (s : Machine) (key : Key) (units : ℕ) (shares : List (Option ℕ)) : Type 0 where
+pub record GoesOut (t : Listing) (s : Machine) (key : Key) (units : ℕ) (grants : List (Option ℕ)) : Type 0 where
   pub name : List ℕ
   pub named : key ≡ keys.Defined name
   pub in_use : units ≤ (store_at s.entities key).level.content
-  pub shared : shares ≡ shares_of t name ((store_at s.entities key).level.content - units) (delay_at s.delays key)
-  pub entries : (store_at s.entities key).entries + all_shares shares ≤ 1000000000
+  pub shared : grants ≡ grants_of t name ((store_at s.entities key).level.content - units) (delay_at s.delays key)
+  pub entries : (store_at s.entities key).entries + all_granted grants ≤ 1000000000
 
 -- whether an entity is a storage
 abbrev pub is_storage : Key → Bool
@@ -110,15 +110,15 @@ is_storage key = false
 abbrev pub ActiveOwns : Machine → Key → Type 0
 ActiveOwns s key = (x : Transaction) → s.active ≡ Some x → is_owner (facility_at s.entities key).owner x.number ≡ true
 
--- what is known of a deed, a change, a fate and a move
-abbrev pub IsDecidedDeed : Listing → Machine → Key → Deed → Type 0
-IsDecidedDeed t s key (deeds.Queue (of_queue.Queue units)) = Fits (line_at s.entities key) units
-IsDecidedDeed t s key (deeds.Queue (of_queue.Depart units at_once)) = Leaves (line_at s.entities key) units at_once
-IsDecidedDeed t s key (deeds.Facility of_facility.Seize) = (is_storage key ≡ false) × (is_some (facility_at s.entities key).owner ≡ false)
-IsDecidedDeed t s key (deeds.Facility (of_facility.Release next)) = (is_storage key ≡ false) × (next ≡ first_number (delay_at s.delays key)) × ActiveOwns s key
-IsDecidedDeed t s key (deeds.Storage (of_storage.Enter units)) = ComesIn t s key units
-IsDecidedDeed t s key (deeds.Storage (of_storage.Leave units shares)) = GoesOut t s key units shares
-IsDecidedDeed t s key deed = Unit {0}
+-- what is known of an update, a change, a fate and a move
+abbrev pub IsDecidedUpdate : Listing → Machine → Key → Update → Type 0
+IsDecidedUpdate t s key (updates.Queue (of_queue.Queue units)) = Fits (line_at s.entities key) units
+IsDecidedUpdate t s key (updates.Queue (of_queue.Depart units at_once)) = Leaves (line_at s.entities key) units at_once
+IsDecidedUpdate t s key (updates.Facility of_facility.Seize) = (is_storage key ≡ false) × (is_some (facility_at s.entities key).owner ≡ false)
+IsDecidedUpdate t s key (updates.Facility (of_facility.Release next)) = (is_storage key ≡ false) × (next ≡ first_number (delay_at s.delays key)) × ActiveOwns s key
+IsDecidedUpdate t s key (updates.Storage (of_storage.Enter units)) = ComesIn t s key units
+IsDecidedUpdate t s key (updates.Storage (of_storage.Leave units grants)) = GoesOut t s key units grants
+IsDecidedUpdate t s key update = Unit {0}
 
 abbrev pub IsDecidedOwn : Listing → TransactionChange → Type 0
 IsDecidedOwn t (own.Transfer to) = AreNumbered t.lines → IsBlockId t to
@@ -144,7 +144,7 @@ IsDecidedChange t s (changes.Generate next) = IsComingIfAny t s next
 IsDecidedChange t s (changes.Transaction change) = IsDecidedOwn t change
 IsDecidedChange t s (changes.Split count to) = MayBeCopied t s count to
 IsDecidedChange t s (changes.Unlink key count to) = MayBeUnlinked t s key count to
-IsDecidedChange t s (changes.Entity change) = IsDecidedDeed t s change.0 change.1
+IsDecidedChange t s (changes.Entity change) = IsDecidedUpdate t s change.0 change.1
 IsDecidedChange t s change = Unit {0}
 
 -- a block that sends its transaction away changes nothing else

@@ -5,7 +5,7 @@ use Rattle.gw_meaning.specs.declared.transaction.Transaction.{Transaction}
 use Rattle.gw_names.specs.declared.key.Key.{Key}
 use Rattle.gw_entities.specs.Tables.{with_value}
 use Rattle.gw_entities.specs.Parameters.{Held, values_at}
-use Rattle.gw_meaning.specs.declared.entity_change.Deed.{Deed}
+use Rattle.gw_meaning.specs.declared.entity_change.Update.{Update}
 use Rattle.gw_meaning.specs.declared.moves.Arrival.{Arrival}
 use Rattle.gw_meaning.specs.declared.transaction.Count.{Count}
 use Rattle.gw_streams.specs.declared.stream.Stream.{Stream}
@@ -22,7 +22,7 @@ use Rattle.gw_meaning.specs.declared.watched.Watched.TheVariants as watched
 use Rattle.gw_meaning.specs.Watching.{kind_of}
 use Rattle.gw_meaning.specs.Entities.{Entities, touched}
 use Rattle.gw_meaning.specs.Machine.{Machine, UserChain, raised, delay_at, user_chain_at}
-use Rattle.gw_meaning.specs.Changes.{crossed, due, Making, making, made, maybe_made, all_made, making_of, with_making, newcomer, placed, started, arrived, lined_up, own_marked, marked, own_held, held_by, linked_to, fated, let_in, one_let_in, some_let_in, deed_shares, admitted, copied, one_copied, all_copied, sent, one_unlinked, some_unlinked, changed, entering, bound, refused, watching, picked, advanced, count_anew, user_chain_anew, reset, with_active, moved, crossings, written_by, written_in, written_where, written, woken, decided}
+use Rattle.gw_meaning.specs.Changes.{crossed, due, Making, making, made, maybe_made, all_made, making_of, with_making, newcomer, placed, started, arrived, lined_up, own_marked, marked, own_held, held_by, linked_to, fated, let_in, one_let_in, some_let_in, update_grants, admitted, copied, one_copied, all_copied, sent, one_unlinked, some_unlinked, changed, entering, bound, refused, watching, picked, advanced, count_anew, user_chain_anew, reset, with_active, moved, crossings, written_by, written_in, written_where, written, woken, decided}
 use Rattle.gw_frame.specs.Moved.{IsMove, moved_transaction, moved_event, moved_count, moved_watched, moved_waiter, moved_linked, moved_machine}
 use Rattle.gw_frame.proofs.MovedLists.{made_one_moved, stood_moved, crossed_moved, lined_up_moved, all_lined_up_moved, due_moved, later_moved}
 use Rattle.gw_frame.proofs.Delays.{delay_at_moved, with_delay_moved}
@@ -133,25 +133,25 @@ module _ (move : ℕ → ℕ) (is : IsMove move) where
   one_let_in_moved key x others s =
       rw (with_delay_moved move s.delays key others) (let_in_moved x x.destination (record s { delays = with_value s.delays key others }))
 
-  some_let_in_moved : (key : Key) (shares : List (Option ℕ)) (passed chain : List Transaction) (s : Machine) →
-      some_let_in key shares (map (moved_transaction move) passed) (map (moved_transaction move) chain) (moved_machine move s) ≡
-      moved_machine move (some_let_in key shares passed chain s)
+  some_let_in_moved : (key : Key) (grants : List (Option ℕ)) (passed chain : List Transaction) (s : Machine) →
+      some_let_in key grants (map (moved_transaction move) passed) (map (moved_transaction move) chain) (moved_machine move s) ≡
+      moved_machine move (some_let_in key grants passed chain s)
   some_let_in_moved key [] passed chain s = refl
-  some_let_in_moved key (share ∷ shares) passed [] s = refl
-  some_let_in_moved key (None ∷ shares) passed (x ∷ xs) s =
-      ap (λ ys. some_let_in key shares ys (map (moved_transaction move) xs) (moved_machine move s))
+  some_let_in_moved key (grant ∷ grants) passed [] s = refl
+  some_let_in_moved key (None ∷ grants) passed (x ∷ xs) s =
+      ap (λ ys. some_let_in key grants ys (map (moved_transaction move) xs) (moved_machine move s))
       (sym (map-append (moved_transaction move) passed (x ∷ []))) ∙
-      some_let_in_moved key shares (passed ++ x ∷ []) xs s
-  some_let_in_moved key (Some units ∷ shares) passed (x ∷ xs) s =
+      some_let_in_moved key grants (passed ++ x ∷ []) xs s
+  some_let_in_moved key (Some units ∷ grants) passed (x ∷ xs) s =
       let others = map-append (moved_transaction move) passed xs in
       let next = one_let_in_moved key x (passed ++ xs) s in
-      ap (some_let_in key shares (map (moved_transaction move) passed) (map (moved_transaction move) xs))
+      ap (some_let_in key grants (map (moved_transaction move) passed) (map (moved_transaction move) xs))
       (ap (λ ys. one_let_in key (moved_transaction move x) ys (moved_machine move s)) (sym others) ∙ next) ∙
-      some_let_in_moved key shares passed xs (one_let_in key x (passed ++ xs) s)
+      some_let_in_moved key grants passed xs (one_let_in key x (passed ++ xs) s)
 
-  admitted_moved : (key : Key) (deed : Deed) (s : Machine) → admitted key deed (moved_machine move s) ≡ moved_machine move (admitted key deed s)
-  admitted_moved key deed s =
-      rw (delay_at_moved move s.delays key) (some_let_in_moved key (deed_shares deed) [] (delay_at s.delays key) s)
+  admitted_moved : (key : Key) (update : Update) (s : Machine) → admitted key update (moved_machine move s) ≡ moved_machine move (admitted key update s)
+  admitted_moved key update s =
+      rw (delay_at_moved move s.delays key) (some_let_in_moved key (update_grants update) [] (delay_at s.delays key) s)
 
   -- copies
   one_copied_moved : (to : Option ℕ) (x : Transaction) (values : List (Key × ℤ)) (s : Machine) →
@@ -281,8 +281,8 @@ module _ (move : ℕ → ℕ) (is : IsMove move) where
       written_by (moved_change move change) (moved_machine move s) ≡ map (moved_watched move) (written_by change s)
   written_by_moved (changes.Entity change) s =
       ap (λ ws. watched.Entity (kind_of change.1) change.0 ∷ ws)
-      (ap (crossings (deed_shares change.1)) (delay_at_moved move s.delays change.0) ∙
-      crossings_moved move (deed_shares change.1) (delay_at s.delays change.0))
+      (ap (crossings (update_grants change.1)) (delay_at_moved move s.delays change.0) ∙
+      crossings_moved move (update_grants change.1) (delay_at s.delays change.0))
   written_by_moved change s = refl
 
   written_in_moved : (fate : Fate) → written_in fate ≡ map (moved_watched move) (written_in fate)

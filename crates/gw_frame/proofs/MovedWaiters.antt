@@ -31,14 +31,14 @@ module _ (move : ℕ → ℕ) where
   crossing_moved x None = refl
   crossing_moved x (Some id) = refl
 
-  pub crossings_moved : (shares : List (Option ℕ)) (xs : List Transaction) →
-      crossings shares (map (moved_transaction move) xs) ≡ map (moved_watched move) (crossings shares xs)
+  pub crossings_moved : (grants : List (Option ℕ)) (xs : List Transaction) →
+      crossings grants (map (moved_transaction move) xs) ≡ map (moved_watched move) (crossings grants xs)
   crossings_moved [] xs = refl
-  crossings_moved (share ∷ shares) [] = refl
-  crossings_moved (None ∷ shares) (x ∷ xs) = crossings_moved shares xs
-  crossings_moved (Some units ∷ shares) (x ∷ xs) =
-      ap₂ (λ ws vs. ws ++ vs) (crossing_moved x x.destination) (crossings_moved shares xs) ∙
-      sym (map-append (moved_watched move) (crossing x x.destination) (crossings shares xs))
+  crossings_moved (grant ∷ grants) [] = refl
+  crossings_moved (None ∷ grants) (x ∷ xs) = crossings_moved grants xs
+  crossings_moved (Some units ∷ grants) (x ∷ xs) =
+      ap₂ (λ ws vs. ws ++ vs) (crossing_moved x x.destination) (crossings_moved grants xs) ∙
+      sym (map-append (moved_watched move) (crossing x x.destination) (crossings grants xs))
 
 module _ (move : ℕ → ℕ) (is : IsMove move) where
   same_watched_moved : (v w : Watched) → same_watched (moved_watched move v) (moved_watched move w) ≡ same_watched v w

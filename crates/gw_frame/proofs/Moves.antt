@@ -5,7 +5,7 @@ use Rattle.gw_meaning.specs.declared.transaction.Transaction.{Transaction}
 use Rattle.gw_names.specs.declared.key.Key.{Key}
 use Rattle.gw_entities.specs.Tables.{with_value}
 use Rattle.gw_entities.specs.Parameters.{values_at}
-use Rattle.gw_meaning.specs.declared.entity_change.Deed.{Deed}
+use Rattle.gw_meaning.specs.declared.entity_change.Update.{Update}
 use Rattle.gw_meaning.specs.declared.moves.Arrival.{Arrival}
 use Rattle.gw_meaning.specs.declared.moves.Change.{Change}
 use Rattle.gw_meaning.specs.declared.moves.Change.TheVariants as changes
@@ -17,8 +17,8 @@ use Rattle.gw_meaning.specs.declared.moves.Move.TheVariants as moves
 use Rattle.gw_meaning.specs.Listing.{Listing}
 use Rattle.gw_meaning.specs.Entities.{touched}
 use Rattle.gw_meaning.specs.Machine.{Machine, UserChain, delay_at, user_chain_at}
-use Rattle.gw_meaning.specs.Changes.{lined_up, crossed, made, making_of, with_making, placed, own_marked, marked, held_by, linked_to, fated, let_in, one_let_in, some_let_in, deed_shares, admitted, one_copied, all_copied, one_unlinked, some_unlinked, changed, entering, with_active, picked, moved}
-use Rattle.gw_frame.proofs.Known.{IsComing, IsSentTo, MayBeCopied, IsDecidedChange}
+use Rattle.gw_meaning.specs.Changes.{lined_up, crossed, made, making_of, with_making, placed, own_marked, marked, held_by, linked_to, fated, let_in, one_let_in, some_let_in, update_grants, admitted, one_copied, all_copied, one_unlinked, some_unlinked, changed, entering, with_active, picked, moved}
+use Rattle.gw_frame.proofs.Known.{IsQueueArrival, IsSentTo, MayBeCopied, IsDecidedChange}
 use Rattle.gw_frame.proofs.Delays.{delay_set}
 use Rattle.gw_frame.proofs.UserChains.{members_set}
 
@@ -104,14 +104,14 @@ abbrev pub LetsIn : (Machine → Type 0) → Type 0
 LetsIn Q = (w : Machine) (key : Key) (x : Transaction) (passed xs : List Transaction) → delay_at w.delays key ≡ passed ++ x ∷ xs → Q w →
     Q (one_let_in key x (passed ++ xs) w)
 
-pub some_have : (Q : Machine → Type 0) (key : Key) (shares : List (Option ℕ)) (passed chain : List Transaction) (w : Machine) →
-    delay_at w.delays key ≡ passed ++ chain → LetsIn Q → Q w → Q (some_let_in key shares passed chain w)
+pub some_have : (Q : Machine → Type 0) (key : Key) (grants : List (Option ℕ)) (passed chain : List Transaction) (w : Machine) →
+    delay_at w.delays key ≡ passed ++ chain → LetsIn Q → Q w → Q (some_let_in key grants passed chain w)
 some_have Q key [] passed chain w is lets h = h
-some_have Q key (share ∷ shares) passed [] w is lets h = h
-some_have Q key (None ∷ shares) passed (x ∷ xs) w is lets h =
-    some_have Q key shares (passed ++ x ∷ []) xs w (is ∙ sym (append_assoc passed (x ∷ []) xs)) lets h
-some_have Q key (Some units ∷ shares) passed (x ∷ xs) w is lets h =
-    some_have Q key shares passed xs (one_let_in key x (passed ++ xs) w) (chain_behind key x (passed ++ xs) w) lets (lets w key x passed xs is h)
+some_have Q key (grant ∷ grants) passed [] w is lets h = h
+some_have Q key (None ∷ grants) passed (x ∷ xs) w is lets h =
+    some_have Q key grants (passed ++ x ∷ []) xs w (is ∙ sym (append_assoc passed (x ∷ []) xs)) lets h
+some_have Q key (Some units ∷ grants) passed (x ∷ xs) w is lets h =
+    some_have Q key grants passed xs (one_let_in key x (passed ++ xs) w) (chain_behind key x (passed ++ xs) w) lets (lets w key x passed xs is h)
 
 -- what each copy keeps of a state in which so many are to be made, all of them keep
 pub all_copied_keep : (Q : ℕ → Machine → Type 0) (to : Option ℕ) (x : Transaction) (values : List (Key × ℤ)) →
@@ -170,14 +170,14 @@ Unlinks t Q = (w : Machine) (key : Key) (to : Option ℕ) (x : Transaction) (xs 
 -- made, and if it still holds where one of a delay chain is let in, one copy is made, or the first of a user chain leaves it
 pub record Brings (P Q : Machine → Type 0) (t : Listing) (s v : Machine) : Type 0 where
   pub nothing : P v → Q v
-  pub one : (a : Arrival) → IsComing t s a → P v → Q (with_making (made a (making_of v)) v)
+  pub one : (a : Arrival) → IsQueueArrival t s a → P v → Q (with_making (made a (making_of v)) v)
   pub lets : LetsIn Q
   pub copies : Copies t s Q
   pub unlinks : Unlinks t Q
 
-admitted_has : (P Q : Machine → Type 0) (t : Listing) (s v : Machine) (key : Key) (deed : Deed) → P v → Brings P Q t s v → Q (admitted key deed v)
-admitted_has P Q t s v key deed h brings =
-    some_have Q key (deed_shares deed) [] (delay_at v.delays key) v refl brings.lets (brings.nothing h)
+admitted_has : (P Q : Machine → Type 0) (t : Listing) (s v : Machine) (key : Key) (update : Update) → P v → Brings P Q t s v → Q (admitted key update v)
+admitted_has P Q t s v key update h brings =
+    some_have Q key (update_grants update) [] (delay_at v.delays key) v refl brings.lets (brings.nothing h)
 
 copied_has : (P Q : Machine → Type 0) (t : Listing) (s v : Machine) (o : Option Transaction) (count : ℕ) (to : Option ℕ) → v.active ≡ o →
     v.next ≡ s.next → MayBeCopied t s count to → P v → Brings P Q t s v →

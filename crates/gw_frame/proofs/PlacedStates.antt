@@ -28,7 +28,7 @@ use Rattle.gw_meaning.specs.Machine.{Machine, UserChain, count_in, with_count, d
 use Rattle.gw_meaning.specs.Changes.{lined_up, all_lined_up, left_at, left, crossed, is_due, due, Making, made, all_made, making_of, with_making, started, placed, own_marked, marked, linked_to, fated, let_in, copied, sent, bound, refused, watching, reset, cleared, moved, written, is_woken, woken}
 use Rattle.gw_frame.specs.BlockIds.{IsBlockId, IsIdIfAny, TransactionNames, ActiveNames, EventNames, DelayNames, LinkedNames, WatchedNames, WaiterNames, CountNames, StateNames, ItemNames, StatesNameBlocks, StepsReadBlocks}
 use Rattle.gw_frame.proofs.Lawful.{all_with}
-use Rattle.gw_frame.proofs.Known.{IsComing, IsDecidedOwn, IsDecidedChange, IsDecided, IsRead}
+use Rattle.gw_frame.proofs.Known.{IsQueueArrival, IsDecidedOwn, IsDecidedChange, IsDecided, IsRead}
 use Rattle.gw_frame.proofs.Decided.{step_decides}
 use Rattle.gw_frame.proofs.Moves.{LetsIn, Copies, Unlinks, settled, with_active_has, entered_has, picked_has}
 use Rattle.gw_frame.proofs.Delays.{delay_has, with_delay_has}
@@ -76,7 +76,7 @@ module _ (t : Listing) where
   later_names time (e ∷ es) all = all_cond (EventNames t) (not (is_due time e)) _ _ (all.0, later_names time es all.1) (later_names time es all.1)
 
   -- the making of transactions
-  made_names : (s : Machine) (a : Arrival) (w : Making) (v : Machine) → IsComing t s a → StateNames t (with_making w v) →
+  made_names : (s : Machine) (a : Arrival) (w : Making) (v : Machine) → IsQueueArrival t s a → StateNames t (with_making w v) →
       StateNames t (with_making (made a w) v)
   made_names s a w v coming h = record {
     active = h.active;
@@ -88,7 +88,7 @@ module _ (t : Listing) where
     counts = with_count_names w.counts a.id _ coming.id h.counts;
   }
 
-  all_made_names : (s : Machine) (arrivals : List Arrival) (w : Making) (v : Machine) → AllByRecursion (IsComing t s) arrivals →
+  all_made_names : (s : Machine) (arrivals : List Arrival) (w : Making) (v : Machine) → AllByRecursion (IsQueueArrival t s) arrivals →
       StateNames t (with_making w v) → StateNames t (with_making (all_made arrivals w) v)
   all_made_names s [] w v coming h = h
   all_made_names s (a ∷ rest) w v coming h = all_made_names s rest (made a w) v coming.1 (made_names s a w v coming.0 h)

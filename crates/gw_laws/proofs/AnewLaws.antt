@@ -5,9 +5,9 @@ use Rattle.gw_names.specs.declared.key.Key.{Key}
 use Rattle.gw_names.specs.Keys.{key_eq}
 use Rattle.gw_entities.specs.Levels.{sum_up_to}
 use Rattle.gw_entities.specs.Records.{Ownership, never_owned, facility_anew, Line, no_line, queue_anew, Store, never_used, storage_anew}
-use Rattle.gw_entities.proofs.ComingLaws.{key_same}
+use Rattle.gw_entities.proofs.QueueArrivalLaws.{key_same}
 use Rattle.gw_entities.proofs.TableLaws.{key_eq_equiv}
-use Rattle.gw_meaning.specs.declared.entity_change.Deed.TheVariants as deeds
+use Rattle.gw_meaning.specs.declared.entity_change.Update.TheVariants as updates
 use Rattle.gw_meaning.specs.declared.moves.Change.TheVariants as changes
 use Rattle.gw_meaning.specs.declared.moves.Move.{Move}
 use Rattle.gw_meaning.specs.declared.moves.Move.TheVariants as moves
@@ -73,7 +73,7 @@ reset_moves_nobody t seed s v next is = subst (NobodyMoved s) (reset_is t seed s
   storages = storage_reset s;
   savevalues = refl;
   switches = refl;
-  comings = refl;
+  queue_arrivals = refl;
   facility_lines = keys_anew (facility_anew s.clock) s.entities.facilities;
   queue_lines = keys_anew (queue_anew s.clock) s.entities.queues;
   storage_lines = keys_anew (storage_anew s.clock) s.entities.storages;
@@ -106,7 +106,7 @@ reset_counts_anew t seed s v next is = subst IsCountedAnew (reset_is t seed s v 
 
 -- ---- one value more
 
-added : (key : Key) (value : ℤ) (clock number : ℕ) (e : Entities) → OneValueMore key value e (done key (deeds.Table value) clock number e)
+added : (key : Key) (value : ℤ) (clock number : ℕ) (e : Entities) → OneValueMore key value e (done key (updates.Table value) clock number e)
 added key value clock number e =
     let more : List ℤ = table_at e key ++ value ∷ [] in
     record {
@@ -120,13 +120,13 @@ added key value clock number e =
       storages = refl;
       savevalues = refl;
       switches = refl;
-      comings = refl;
+      queue_arrivals = refl;
     }
 
 pub tabulate_adds_one_value : TabulateAddsOneValue
 tabulate_adds_one_value t seed s v m streams key value goes is tabulates =
     let id = tabulates.0 in
-    let change = changes.Entity (key, deeds.Table value) in
+    let change = changes.Entity (key, updates.Table value) in
     let who = who_is_active t seed s m streams id change fates.Active goes tabulates.1 in
     let P : Machine → Type 0 = λ w. OneValueMore key value s.entities w.entities × (w.linked ≡ s.linked) in
     let f : Transaction → Machine = λ x. entering s x id change fates.Active in

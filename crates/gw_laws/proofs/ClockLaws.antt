@@ -16,7 +16,7 @@ use Rattle.gw_meaning.specs.Machine.{Machine}
 use Rattle.gw_meaning.specs.Changes.{Making, made, all_made, making_of, fated, refused, is_due, moved, watching}
 use Rattle.gw_meaning.specs.Step.{run, sooner, least_time}
 use Rattle.gw_frame.proofs.Lawful.{all_with}
-use Rattle.gw_frame.proofs.Known.{IsComing, IsDecidedFate, IsDecided}
+use Rattle.gw_frame.proofs.Known.{IsQueueArrival, IsDecidedFate, IsDecided}
 use Rattle.gw_frame.proofs.Moves.{settled_is, with_active_has, entered_has, picked_has}
 use Rattle.gw_frame.proofs.Running.{over_run, over_rest}
 use Rattle.gw_laws.specs.Clock.{ClockNeverGoesBack, ClockStaysWithin, NothingIsOverdue}
@@ -74,7 +74,7 @@ rest_ahead clock time (e ∷ es) h =
     cond_both (not (is_due time e)) (e ∷ filter (λ e. not (is_due time e)) es) (filter (λ e. not (is_due time e)) es) (AreAhead clock)
     (λ _. (h.0, rest_ahead clock time es h.1)) (λ _. rest_ahead clock time es h.1)
 
-all_made_ahead : (t : Listing) (s : Machine) (arrivals : List Arrival) (w : Making) → AllByRecursion (IsComing t s) arrivals → AreAhead s.clock w.future →
+all_made_ahead : (t : Listing) (s : Machine) (arrivals : List Arrival) (w : Making) → AllByRecursion (IsQueueArrival t s) arrivals → AreAhead s.clock w.future →
     AreAhead s.clock (all_made arrivals w).future
 all_made_ahead t s [] w coming h = h
 all_made_ahead t s (a ∷ rest) w coming h =

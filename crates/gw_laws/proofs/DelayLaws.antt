@@ -6,10 +6,10 @@ use Rattle.std.proofs.lemmas.List.Elements.{All-from_recursion}
 use Rattle.gw_names.specs.declared.key.Key.{Key}
 use Rattle.gw_names.specs.Keys.{key_eq}
 use Rattle.gw_meaning.specs.declared.transaction.Transaction.{Transaction}
-use Rattle.gw_meaning.specs.declared.entity_change.Deed.{Deed}
-use Rattle.gw_meaning.specs.declared.entity_change.Deed.TheVariants as deeds
-use Rattle.gw_meaning.specs.declared.entity_change.FacilityDeed.TheVariants as of_facility
-use Rattle.gw_meaning.specs.declared.entity_change.StorageDeed.TheVariants as of_storage
+use Rattle.gw_meaning.specs.declared.entity_change.Update.{Update}
+use Rattle.gw_meaning.specs.declared.entity_change.Update.TheVariants as updates
+use Rattle.gw_meaning.specs.declared.entity_change.FacilityUpdate.TheVariants as of_facility
+use Rattle.gw_meaning.specs.declared.entity_change.StorageUpdate.TheVariants as of_storage
 use Rattle.gw_meaning.specs.declared.moves.Move.{Move}
 use Rattle.gw_meaning.specs.declared.moves.Move.TheVariants as moves
 use Rattle.gw_meaning.specs.Listing.{Listing}
@@ -19,7 +19,7 @@ use Rattle.gw_meaning.specs.Step.{run}
 use Rattle.gw_meaning.proofs.Programs.{run_on}
 use Rattle.gw_meaning.proofs.Chains.{IsOrdered, in_order}
 use Rattle.gw_frame.proofs.Decided.{step_decides}
-use Rattle.gw_frame.proofs.Known.{IsDecidedDeed, IsDecided}
+use Rattle.gw_frame.proofs.Known.{IsDecidedUpdate, IsDecided}
 use Rattle.gw_frame.proofs.Moves.{settled_is, with_active_has, entered_has, picked_has}
 use Rattle.gw_frame.proofs.Running.{over_run}
 use Rattle.gw_laws.specs.Chain.{numbers_of, IsFirstInFirstOut}
@@ -59,14 +59,14 @@ module _ (priority : ℤ) (q : Key) where
       let first : InTurn (delay_at v.delays key) xs = rw is (picked_turn priority x xs) in
       rw (after, ← same) (set_has InTurn stays v.delays q key xs first)
 
-  deed_turn : (t : Listing) (s v : Machine) (key : Key) (deed : Deed) → is_storage q ≡ false → v.delays ≡ s.delays → IsDecidedDeed t s key deed →
-      TakesTurns s (admitted key deed v)
-  deed_turn t s v key (deeds.Facility (of_facility.Release next)) facility same decided = released_turn s v key (delay_at v.delays key) refl same
-  deed_turn t s v key (deeds.Storage (of_storage.Leave units shares)) facility same decided =
+  update_turn : (t : Listing) (s v : Machine) (key : Key) (update : Update) → is_storage q ≡ false → v.delays ≡ s.delays → IsDecidedUpdate t s key update →
+      TakesTurns s (admitted key update v)
+  update_turn t s v key (updates.Facility (of_facility.Release next)) facility same decided = released_turn s v key (delay_at v.delays key) refl same
+  update_turn t s v key (updates.Storage (of_storage.Leave units grants)) facility same decided =
       let other : key_eq q key ≡ false = ap (key_eq q) decided.named ∙ no_storage q decided.name facility in
-      let rest = others_stay q key shares [] (delay_at v.delays key) v other in
+      let rest = others_stay q key grants [] (delay_at v.delays key) v other in
       rw (rest, same) (stays (delay_at s.delays q))
-  deed_turn t s v key deed facility same decided = same_turn s v same
+  update_turn t s v key update facility same decided = same_turn s v same
 
   refused_turn : (s : Machine) (x : Transaction) (id : ℕ) (key : Key) (units : ℕ) → s.active ≡ Some x → IsNumbered s → IsOrdered (delay_at s.delays key) →
       TakesTurns s (refused s x id key units)
@@ -87,7 +87,7 @@ module _ (priority : ℤ) (q : Key) where
   moved_turn t s (moves.Enter id change fate) facility decided h order =
       with_active_has (TakesTurns s) s.active (λ x. entering s x id change fate) s (same_turn s s refl)
       (λ x is. entering_has (TakesTurns s) t s x id change fate decided.1 (λ v same entities. same_turn s v same)
-      (λ v key deed same entities does. deed_turn t s v key deed facility same does))
+      (λ v key update same entities does. update_turn t s v key update facility same does))
   moved_turn t s (moves.Refuse id key units) facility decided h order =
       with_active_has (TakesTurns s) s.active (λ x. refused s x id key units) s (same_turn s s refl) (λ x is. refused_turn s x id key units is h (order key))
   moved_turn t s (moves.Watch read) facility decided h order =

@@ -1,8 +1,8 @@
--- A law of the entities at the clock: what each deed, a later clock and a RESET keep, each run from zero has. So a law
--- of one kind of entity says nothing of moves, and has one line for the deeds of all other kinds.
+-- A law of the entities at the clock: what each update, a later clock and a RESET keep, each run from zero has. So a law
+-- of one kind of entity says nothing of moves, and has one line for the updates of all other kinds.
 use Rattle.std.proofs.Common.{◌≡◌, ℕ, suc, ◌≤◌, ◌++◌, Ok, arith}
 use Rattle.gw_names.specs.declared.key.Key.{Key}
-use Rattle.gw_meaning.specs.declared.entity_change.Deed.{Deed}
+use Rattle.gw_meaning.specs.declared.entity_change.Update.{Update}
 use Rattle.gw_meaning.specs.declared.moves.Change.{Change}
 use Rattle.gw_meaning.specs.declared.moves.Change.TheVariants as changes
 use Rattle.gw_meaning.specs.declared.moves.Move.{Move}
@@ -12,7 +12,7 @@ use Rattle.gw_meaning.specs.Entities.{Entities, done, touched, later, entities_a
 use Rattle.gw_meaning.specs.Machine.{Machine, zero_state}
 use Rattle.gw_meaning.specs.Changes.{refused, watching, moved}
 use Rattle.gw_meaning.specs.Step.{run}
-use Rattle.gw_frame.proofs.Known.{IsDecidedDeed, IsDecidedChange, IsDecided}
+use Rattle.gw_frame.proofs.Known.{IsDecidedUpdate, IsDecidedChange, IsDecided}
 use Rattle.gw_frame.proofs.Moves.{settled_is, with_active_has, entered_has, picked_has}
 use Rattle.gw_frame.proofs.Running.{over_run}
 use Rattle.gw_laws.proofs.Waiting.{let_in_is}
@@ -22,8 +22,8 @@ use Rattle.gw_laws.proofs.ClockLaws.{IsInTime, moved_goes_on, moved_in_time}
 pub record KeepsEntities (t : Listing) (P : ℕ → ℕ → Entities → Type 0) : Type 0 where
   pub none : (n : ℕ) → P n 0 zero_state.entities
   pub further : (n clock : ℕ) (e : Entities) → P n clock e → P (suc n) clock e
-  pub does : (n : ℕ) (s : Machine) (key : Key) (deed : Deed) (number : ℕ) → IsDecidedDeed t s key deed → P n s.clock s.entities →
-      P (suc n) s.clock (done key deed s.clock number s.entities)
+  pub does : (n : ℕ) (s : Machine) (key : Key) (update : Update) (number : ℕ) → IsDecidedUpdate t s key update → P n s.clock s.entities →
+      P (suc n) s.clock (done key update s.clock number s.entities)
   pub goes_on : (n before now : ℕ) (e : Entities) → before ≤ now → P n before e → P (suc n) now (later before now e)
   pub anew : (n clock : ℕ) (e : Entities) → P n clock e → P (suc n) clock (entities_anew clock e)
 

@@ -4,9 +4,9 @@ use Rattle.std.proofs.lemmas.List.Elements.{All-from_recursion}
 use Rattle.gw_names.specs.declared.key.Key.{Key}
 use Rattle.gw_entities.specs.Levels.{Course, changed}
 use Rattle.gw_entities.specs.Records.{Ownership, never_owned, seized, released}
-use Rattle.gw_meaning.specs.declared.entity_change.Deed.{Deed}
-use Rattle.gw_meaning.specs.declared.entity_change.Deed.TheVariants as deeds
-use Rattle.gw_meaning.specs.declared.entity_change.FacilityDeed.TheVariants as of_facility
+use Rattle.gw_meaning.specs.declared.entity_change.Update.{Update}
+use Rattle.gw_meaning.specs.declared.entity_change.Update.TheVariants as updates
+use Rattle.gw_meaning.specs.declared.entity_change.FacilityUpdate.TheVariants as of_facility
 use Rattle.gw_meaning.specs.Listing.{Listing}
 use Rattle.gw_meaning.specs.Entities.{Entities, facility_at, given_back, done}
 use Rattle.gw_meaning.specs.Machine.{Machine}
@@ -69,17 +69,17 @@ given_back_used clock steps (Some number) f h = seized_used clock steps number (
 again : (clock steps : ℕ) (fs : List (Key × Ownership)) → AreUsed clock steps fs → AreUsed clock (suc steps) fs
 again clock steps fs all = all_later clock clock steps (suc steps) fs (omega arith) (omega arith) all
 
-done_used : (steps : ℕ) (s : Machine) (key : Key) (deed : Deed) (number : ℕ) → AreUsed s.clock steps s.entities.facilities →
-    AreUsed s.clock (suc steps) (done key deed s.clock number s.entities).facilities
-done_used steps s key (deeds.Facility of_facility.Seize) number all =
+done_used : (steps : ℕ) (s : Machine) (key : Key) (update : Update) (number : ℕ) → AreUsed s.clock steps s.entities.facilities →
+    AreUsed s.clock (suc steps) (done key update s.clock number s.entities).facilities
+done_used steps s key (updates.Facility of_facility.Seize) number all =
     with_has (IsUsed s.clock (suc steps)) s.entities.facilities key _
     (seized_used s.clock steps number (facility_at s.entities key) (facility_used s.clock steps s.entities key all))
     (again s.clock steps s.entities.facilities all)
-done_used steps s key (deeds.Facility (of_facility.Release next)) number all =
+done_used steps s key (updates.Facility (of_facility.Release next)) number all =
     with_has (IsUsed s.clock (suc steps)) s.entities.facilities key _
     (given_back_used s.clock steps next (facility_at s.entities key) (facility_used s.clock steps s.entities key all))
     (again s.clock steps s.entities.facilities all)
-done_used steps s key deed number all = again s.clock steps s.entities.facilities all
+done_used steps s key update number all = again s.clock steps s.entities.facilities all
 
 -- counted anew
 anew_used : (steps clock : ℕ) (fs : List (Key × Ownership)) → AreUsed clock steps fs → AreUsed clock (suc steps) (all_anew (facility_anew clock) fs)
@@ -92,7 +92,7 @@ keeps_facilities : (t : Listing) → KeepsEntities t (λ n clock e. AreUsed cloc
 keeps_facilities t = record {
   none = λ n. tt;
   further = λ n clock e all. again clock n e.facilities all;
-  does = λ n s key deed number decided all. done_used n s key deed number all;
+  does = λ n s key update number decided all. done_used n s key update number all;
   goes_on = λ n before now e on all. all_later before now n (suc n) e.facilities on (omega arith) all;
   anew = λ n clock e all. anew_used n clock e.facilities all;
 }

@@ -13,7 +13,7 @@ use Rattle.gw_names.specs.declared.verb.BlockVerb.{BlockVerb}
 use Rattle.gw_names.specs.declared.verb.BlockVerb.TheVariants as blocks
 use Rattle.gw_entities.specs.Tables.{value_of, with_value}
 use Rattle.gw_entities.proofs.Finding.{value_of-with_value}
-use Rattle.gw_entities.proofs.ComingLaws.{key_same}
+use Rattle.gw_entities.proofs.QueueArrivalLaws.{key_same}
 use Rattle.gw_expr.specs.declared.atom.Atom.TheVariants as atoms
 use Rattle.gw_expr.specs.Term.{Term, Value, Computed, Named, Label, Fraction, Defined, Table, Order}
 use Rattle.gw_expr.specs.Evaluation as operands
@@ -27,8 +27,8 @@ use Rattle.gw_meaning.specs.declared.auxiliary.Condition.{Condition}
 use Rattle.gw_meaning.specs.declared.auxiliary.Condition.TheVariants as conditions
 use Rattle.gw_meaning.specs.declared.statement.Block.{Block}
 use Rattle.gw_meaning.specs.declared.transaction.Transaction.{Transaction}
-use Rattle.gw_meaning.specs.declared.entity_change.Deed.{Deed}
-use Rattle.gw_meaning.specs.declared.entity_change.Deed.TheVariants as deeds
+use Rattle.gw_meaning.specs.declared.entity_change.Update.{Update}
+use Rattle.gw_meaning.specs.declared.entity_change.Update.TheVariants as updates
 use Rattle.gw_meaning.specs.declared.moves.Change.{Change}
 use Rattle.gw_meaning.specs.declared.moves.Change.TheVariants as changes
 use Rattle.gw_meaning.specs.declared.moves.Fate.{Fate}
@@ -151,17 +151,17 @@ other_stays : {V : Type 0} (none : V) (es : List (Key × V)) (other : Key) (v : 
     unwrap_or (value_of (with_value es other v) key) none ≡ unwrap_or (value_of es key) none
 other_stays none es other v key apart = at_with none es other v key ∙ ap (λ b. cond b v (unwrap_or (value_of es key) none)) apart
 
--- a deed changes the entity of its kind with the key
-done_same : (kind : EntityKind) (key other : Key) (deed : Deed) (clock number : ℕ) (e : Kept) →
-    same_watched (watched.Entity kind key) (watched.Entity (kind_of deed) other) ≡ false → SameEntity kind key e (done other deed clock number e.0, e.1)
-done_same kinds.Facility key other (deeds.Facility deed) clock number e apart = other_stays never_owned e.0.facilities other _ key apart
-done_same kinds.Queue key other (deeds.Queue deed) clock number e apart = other_stays no_line e.0.queues other _ key apart
-done_same kinds.Storage key other (deeds.Storage deed) clock number e apart = other_stays never_used e.0.storages other _ key apart
-done_same kinds.Savevalue key other (deeds.Savevalue to) clock number e apart =
+-- an update changes the entity of its kind with the key
+done_same : (kind : EntityKind) (key other : Key) (update : Update) (clock number : ℕ) (e : Kept) →
+    same_watched (watched.Entity kind key) (watched.Entity (kind_of update) other) ≡ false → SameEntity kind key e (done other update clock number e.0, e.1)
+done_same kinds.Facility key other (updates.Facility update) clock number e apart = other_stays never_owned e.0.facilities other _ key apart
+done_same kinds.Queue key other (updates.Queue update) clock number e apart = other_stays no_line e.0.queues other _ key apart
+done_same kinds.Storage key other (updates.Storage update) clock number e apart = other_stays never_used e.0.storages other _ key apart
+done_same kinds.Savevalue key other (updates.Savevalue to) clock number e apart =
     value_of-with_value e.0.savevalues other to key ∙ ap (λ b. cond b (Some to) (value_of e.0.savevalues key)) apart
-done_same kinds.Switch key other (deeds.Switch set) clock number e apart = other_stays false e.0.switches other set key apart
-done_same kinds.Table key other (deeds.Table value) clock number e apart = other_stays [] e.0.tables other _ key apart
-done_same kind key other deed clock number e apart = refl
+done_same kinds.Switch key other (updates.Switch set) clock number e apart = other_stays false e.0.switches other set key apart
+done_same kinds.Table key other (updates.Table value) clock number e apart = other_stays [] e.0.tables other _ key apart
+done_same kind key other update clock number e apart = refl
 
 entering_entities : (s : Machine) (x : Transaction) (id : ℕ) (change : Change) (fate : Fate) →
     (entering s x id change fate).entities ≡ touched change s.clock x.number s.entities

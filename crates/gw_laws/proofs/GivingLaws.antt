@@ -5,11 +5,11 @@ use Rattle.std.proofs.lemmas.Bool.{cases_Bool, eqb-true}
 use Rattle.gw_names.specs.declared.key.Key.{Key}
 use Rattle.gw_names.specs.Keys.{key_eq}
 use Rattle.gw_entities.specs.Records.{Ownership, seized}
-use Rattle.gw_entities.proofs.ComingLaws.{key_same}
+use Rattle.gw_entities.proofs.QueueArrivalLaws.{key_same}
 use Rattle.gw_meaning.specs.declared.transaction.Transaction.{Transaction}
-use Rattle.gw_meaning.specs.declared.entity_change.Deed.{Deed}
-use Rattle.gw_meaning.specs.declared.entity_change.Deed.TheVariants as deeds
-use Rattle.gw_meaning.specs.declared.entity_change.FacilityDeed.TheVariants as of_facility
+use Rattle.gw_meaning.specs.declared.entity_change.Update.{Update}
+use Rattle.gw_meaning.specs.declared.entity_change.Update.TheVariants as updates
+use Rattle.gw_meaning.specs.declared.entity_change.FacilityUpdate.TheVariants as of_facility
 use Rattle.gw_meaning.specs.declared.moves.Change.{Change}
 use Rattle.gw_meaning.specs.declared.moves.Change.TheVariants as changes
 use Rattle.gw_meaning.specs.declared.moves.Move.{Move}
@@ -22,7 +22,7 @@ use Rattle.gw_meaning.specs.Step.{is_owner, first_number, run}
 use Rattle.gw_meaning.proofs.Programs.{run_on}
 use Rattle.gw_laws.specs.Owners.{OnlyTheOwnerGivesBack, TheFirstIsGivenIt, OnlyTheActiveTakes}
 use Rattle.gw_frame.proofs.Decided.{step_decides}
-use Rattle.gw_frame.proofs.Known.{IsDecidedDeed, IsDecidedChange, IsDecided}
+use Rattle.gw_frame.proofs.Known.{IsDecidedUpdate, IsDecidedChange, IsDecided}
 use Rattle.gw_frame.proofs.Moves.{settled_is, with_active_has, entered_has, picked_has}
 use Rattle.gw_laws.proofs.Waiting.{let_in_is}
 use Rattle.gw_laws.proofs.OwnerLaws.{owner_here, owner_there}
@@ -60,9 +60,9 @@ module _ (q : Key) where
   abbrev Passes : Machine → Entities → Type 0
   Passes s e = (owner e ≡ owner s.entities) ⊎ ((x : Transaction) × (s.active ≡ Some x) × PassesFrom s x e)
 
-  done_passes : (t : Listing) (s : Machine) (x : Transaction) (key : Key) (deed : Deed) → s.active ≡ Some x → IsDecidedDeed t s key deed →
-      Passes s (done key deed s.clock x.number s.entities)
-  done_passes t s x key (deeds.Facility of_facility.Seize) active decided =
+  done_passes : (t : Listing) (s : Machine) (x : Transaction) (key : Key) (update : Update) → s.active ≡ Some x → IsDecidedUpdate t s key update →
+      Passes s (done key update s.clock x.number s.entities)
+  done_passes t s x key (updates.Facility of_facility.Seize) active decided =
       let f = seized x.number s.clock (facility_at s.entities key) in
       elim (cases_Bool (key_eq q key)) [
         | inl here ↦
@@ -70,7 +70,7 @@ module _ (q : Key) where
             inr (x, active, inr (none, owner_here s.entities key q f here))
         | inr other ↦ inl (owner_there s.entities key q f other)
       ]
-  done_passes t s x key (deeds.Facility (of_facility.Release next)) active decided =
+  done_passes t s x key (updates.Facility (of_facility.Release next)) active decided =
       let f = given_back next s.clock (facility_at s.entities key) in
       elim (cases_Bool (key_eq q key)) [
         | inl here ↦
@@ -81,7 +81,7 @@ module _ (q : Key) where
             inr (x, active, inl (ap (λ k. (facility_at s.entities k).owner) same ∙ his, given))
         | inr other ↦ inl (owner_there s.entities key q f other)
       ]
-  done_passes t s x key deed active decided = inl refl
+  done_passes t s x key update active decided = inl refl
 
   touched_passes : (t : Listing) (s : Machine) (x : Transaction) (change : Change) → s.active ≡ Some x → IsDecidedChange t s change →
       Passes s (touched change s.clock x.number s.entities)

@@ -24,7 +24,7 @@ pub mod EntityLaws
 pub mod FacilityLaws
 pub mod QueueLaws
 pub mod StorageLaws
-pub mod ShareLaws
+pub mod GrantLaws
 pub mod EndLaws
 pub mod PickLaws
 pub mod Tried
@@ -40,7 +40,7 @@ pub mod GateLaws
 pub mod UserChainLaws
 pub mod CopyLaws
 pub mod InheritLaws
-pub mod CopyComings
+pub mod CopyQueueArrivals
 pub mod WaitingTests
 pub mod WakingLaws
 pub mod AnewLaws

@@ -5,9 +5,9 @@ use Rattle.gw_names.specs.declared.key.Key.{Key}
 use Rattle.gw_names.specs.Keys.{key_eq}
 use Rattle.gw_entities.specs.Tables.{with_value}
 use Rattle.gw_meaning.specs.declared.transaction.Transaction.{Transaction}
-use Rattle.gw_meaning.specs.declared.entity_change.Deed.{Deed}
+use Rattle.gw_meaning.specs.declared.entity_change.Update.{Update}
 use Rattle.gw_meaning.specs.Machine.{Machine, UserChain, no_chain, delay_at, user_chain_at}
-use Rattle.gw_meaning.specs.Changes.{deed_shares, admitted, sent, one_unlinked, some_unlinked}
+use Rattle.gw_meaning.specs.Changes.{update_grants, admitted, sent, one_unlinked, some_unlinked}
 use Rattle.gw_frame.proofs.Moves.{some_have, some_unlinked_keep}
 use Rattle.gw_frame.proofs.UserChains.{chain_set, members_set}
 use Rattle.gw_laws.proofs.Entries.{at_with}
@@ -19,9 +19,9 @@ pub chain_there : (cs : List (Key × UserChain)) (q key : Key) (c : UserChain) �
 chain_there cs q key c other = at_with no_chain cs key c q ∙ ap (λ b. cond b c (user_chain_at cs q)) other
 
 -- who is let in is on none of them
-pub admitted_chain : (key : Key) (deed : Deed) (v : Machine) (q : Key) → user_chain_at (admitted key deed v).linked q ≡ user_chain_at v.linked q
-admitted_chain key deed v q =
-    some_have (λ w. user_chain_at w.linked q ≡ user_chain_at v.linked q) key (deed_shares deed) [] (delay_at v.delays key) v refl
+pub admitted_chain : (key : Key) (update : Update) (v : Machine) (q : Key) → user_chain_at (admitted key update v).linked q ≡ user_chain_at v.linked q
+admitted_chain key update v q =
+    some_have (λ w. user_chain_at w.linked q ≡ user_chain_at v.linked q) key (update_grants update) [] (delay_at v.delays key) v refl
     (λ w other y passed ys is same. ap (λ cs. user_chain_at cs q) (let_in_is other y (passed ++ ys) w).linked ∙ same) refl
 
 -- where some are unlinked

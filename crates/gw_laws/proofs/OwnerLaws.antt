@@ -8,14 +8,14 @@ use Rattle.gw_names.specs.declared.key.Key.TheVariants as keys
 use Rattle.gw_names.specs.Keys.{key_eq}
 use Rattle.gw_entities.specs.Records.{Ownership, never_owned, seized}
 use Rattle.gw_entities.specs.Tables.{with_value}
-use Rattle.gw_entities.proofs.ComingLaws.{key_same}
+use Rattle.gw_entities.proofs.QueueArrivalLaws.{key_same}
 use Rattle.gw_entities.proofs.TableLaws.{key_eq_equiv}
 use Rattle.gw_streams.specs.declared.stream.Stream.{Stream}
 use Rattle.gw_meaning.specs.declared.transaction.Transaction.{Transaction}
-use Rattle.gw_meaning.specs.declared.entity_change.Deed.{Deed}
-use Rattle.gw_meaning.specs.declared.entity_change.Deed.TheVariants as deeds
-use Rattle.gw_meaning.specs.declared.entity_change.FacilityDeed.TheVariants as of_facility
-use Rattle.gw_meaning.specs.declared.entity_change.StorageDeed.TheVariants as of_storage
+use Rattle.gw_meaning.specs.declared.entity_change.Update.{Update}
+use Rattle.gw_meaning.specs.declared.entity_change.Update.TheVariants as updates
+use Rattle.gw_meaning.specs.declared.entity_change.FacilityUpdate.TheVariants as of_facility
+use Rattle.gw_meaning.specs.declared.entity_change.StorageUpdate.TheVariants as of_storage
 use Rattle.gw_meaning.specs.declared.moves.Change.{Change}
 use Rattle.gw_meaning.specs.declared.moves.Change.TheVariants as changes
 use Rattle.gw_meaning.specs.declared.moves.Fate.{Fate}
@@ -31,7 +31,7 @@ use Rattle.gw_meaning.proofs.Chains.{length_lined}
 use Rattle.gw_meaning.specs.declared.watched.Watched.{Watched}
 use Rattle.gw_meaning.specs.Watching.{transactions_of}
 use Rattle.gw_frame.proofs.Decided.{step_decides}
-use Rattle.gw_frame.proofs.Known.{IsDecidedDeed, IsDecidedChange, IsRefused, IsDecided}
+use Rattle.gw_frame.proofs.Known.{IsDecidedUpdate, IsDecidedChange, IsRefused, IsDecided}
 use Rattle.gw_frame.proofs.Moves.{settled, settled_is, with_active_has, entered_has, picked_has}
 use Rattle.gw_frame.proofs.Running.{over_run}
 use Rattle.gw_laws.specs.Delays.{is_storage, TakesOver, FirstTakesOver, NobodyWaitsAtAFreeFacility}
@@ -71,13 +71,13 @@ module _ (q : Key) where
 
   -- the facility of who is let in
   taken : (s w : Machine) (number : ℕ) (next : Option ℕ) (x : Transaction) → next ≡ Some x.number →
-      w.entities ≡ done q (deeds.Facility (of_facility.Release next)) s.clock number s.entities → (facility_at w.entities q).owner ≡ Some x.number
+      w.entities ≡ done q (updates.Facility (of_facility.Release next)) s.clock number s.entities → (facility_at w.entities q).owner ≡ Some x.number
   taken s w number next x is same =
       let f = given_back next s.clock (facility_at s.entities q) in
       ap (λ (e : Entities). (facility_at e q).owner) same ∙ (owner_here s.entities q q f (key_eq_equiv.refl q) ∙ rw is refl)
 
   released_lets : (s v : Machine) (key : Key) (number : ℕ) (next : Option ℕ) (chain : List Transaction) → delay_at v.delays key ≡ chain →
-      v.delays ≡ s.delays → v.entities ≡ done key (deeds.Facility (of_facility.Release next)) s.clock number s.entities → next ≡ first_number (delay_at s.delays key) →
+      v.delays ≡ s.delays → v.entities ≡ done key (updates.Facility (of_facility.Release next)) s.clock number s.entities → next ≡ first_number (delay_at s.delays key) →
       AllAreBound s → LetsIn s (some_let_in key (Some 1 ∷ []) [] chain v)
   released_lets s v key number next [] is chains entities first all = same_chains s v chains
   released_lets s v key number next (x ∷ xs) is chains entities first all =
@@ -96,7 +96,7 @@ module _ (q : Key) where
           bound = bounds.0.1;
           stands = stands_in_block x bounds.0.0 (leaving v key xs) bounds.0.1;
           owns = taken s w number next x (first ∙ ap first_number there)
-              (same.entities ∙ (entities ∙ ap (λ k. done k (deeds.Facility (of_facility.Release next)) s.clock number s.entities) (sym (key_same q key here))));
+              (same.entities ∙ (entities ∙ ap (λ k. done k (updates.Facility (of_facility.Release next)) s.clock number s.entities) (sym (key_same q key here))));
         }
         | inr other ↦
             let long = ap (λ ds. length (delay_at ds q)) after in
@@ -104,16 +104,16 @@ module _ (q : Key) where
             nobody s w (omega arith)
       ]
 
-  deed_lets : (t : Listing) (s v : Machine) (key : Key) (deed : Deed) (number : ℕ) → is_storage q ≡ false → v.delays ≡ s.delays →
-      v.entities ≡ done key deed s.clock number s.entities → IsDecidedDeed t s key deed → AllAreBound s → LetsIn s (admitted key deed v)
-  deed_lets t s v key (deeds.Facility (of_facility.Release next)) number facility chains entities decided all =
+  update_lets : (t : Listing) (s v : Machine) (key : Key) (update : Update) (number : ℕ) → is_storage q ≡ false → v.delays ≡ s.delays →
+      v.entities ≡ done key update s.clock number s.entities → IsDecidedUpdate t s key update → AllAreBound s → LetsIn s (admitted key update v)
+  update_lets t s v key (updates.Facility (of_facility.Release next)) number facility chains entities decided all =
       released_lets s v key number next (delay_at v.delays key) refl chains entities decided.1 all
-  deed_lets t s v key (deeds.Storage (of_storage.Leave units shares)) number facility chains entities decided all =
+  update_lets t s v key (updates.Storage (of_storage.Leave units grants)) number facility chains entities decided all =
       let other : key_eq q key ≡ false = ap (key_eq q) decided.named ∙ no_storage q decided.name facility in
-      let rest = ap length (others_stay q key shares [] (delay_at v.delays key) v other) in
+      let rest = ap length (others_stay q key grants [] (delay_at v.delays key) v other) in
       let long = ap (λ ds. length (delay_at ds q)) chains in
-      nobody s (admitted key (deeds.Storage (of_storage.Leave units shares)) v) (omega arith)
-  deed_lets t s v key deed number facility chains entities decided all = same_chains s v chains
+      nobody s (admitted key (updates.Storage (of_storage.Leave units grants)) v) (omega arith)
+  update_lets t s v key update number facility chains entities decided all = same_chains s v chains
 
   refused_lets : (s : Machine) (x : Transaction) (id : ℕ) (key : Key) (units : ℕ) → LetsIn s (refused s x id key units)
   refused_lets s x id key units =
@@ -131,7 +131,7 @@ module _ (q : Key) where
   moved_lets t s (moves.Enter id change fate) facility decided apart all =
       with_active_has (LetsIn s) s.active (λ x. entering s x id change fate) s (same_chains s s refl)
       (λ x is. entering_has (LetsIn s) t s x id change fate decided.1 (λ v chains entities. same_chains s v chains)
-      (λ v key deed chains entities does. deed_lets t s v key deed x.number facility chains entities does all))
+      (λ v key update chains entities does. update_lets t s v key update x.number facility chains entities does all))
   moved_lets t s (moves.Refuse id key units) facility decided apart all =
       with_active_has (LetsIn s) s.active (λ x. refused s x id key units) s (same_chains s s refl) (λ x is. refused_lets s x id key units)
   moved_lets t s (moves.Watch read) facility decided apart all =
@@ -170,15 +170,15 @@ none_next next [] clock f first none = refl
 none_next None (x ∷ xs) clock f first none = absurd cc
 none_next (Some number) (x ∷ xs) clock f first none = absurd cc
 
-done_free : (t : Listing) (s : Machine) (key : Key) (deed : Deed) (number : ℕ) → IsDecidedDeed t s key deed → NobodyWaits s → (q : Key) →
-    is_storage q ≡ false → (facility_at (done key deed s.clock number s.entities) q).owner ≡ None → delay_at s.delays q ≡ []
-done_free t s key (deeds.Facility of_facility.Seize) number decided h q facility free =
+done_free : (t : Listing) (s : Machine) (key : Key) (update : Update) (number : ℕ) → IsDecidedUpdate t s key update → NobodyWaits s → (q : Key) →
+    is_storage q ≡ false → (facility_at (done key update s.clock number s.entities) q).owner ≡ None → delay_at s.delays q ≡ []
+done_free t s key (updates.Facility of_facility.Seize) number decided h q facility free =
     let f = seized number s.clock (facility_at s.entities key) in
     elim (cases_Bool (key_eq q key)) [
       | inl here ↦ absurd (let owner : Some number ≡ None = sym (owner_here s.entities key q f here) ∙ free in cc)
       | inr other ↦ h q facility (sym (owner_there s.entities key q f other) ∙ free)
     ]
-done_free t s key (deeds.Facility (of_facility.Release next)) number decided h q facility free =
+done_free t s key (updates.Facility (of_facility.Release next)) number decided h q facility free =
     let f = given_back next s.clock (facility_at s.entities key) in
     elim (cases_Bool (key_eq q key)) [
       | inl here ↦
@@ -186,7 +186,7 @@ done_free t s key (deeds.Facility (of_facility.Release next)) number decided h q
           ap (delay_at s.delays) (key_same q key here) ∙ none
       | inr other ↦ h q facility (sym (owner_there s.entities key q f other) ∙ free)
     ]
-done_free t s key deed number decided h q facility free = h q facility free
+done_free t s key update number decided h q facility free = h q facility free
 
 settled_free : (t : Listing) (s : Machine) (x : Transaction) (id : ℕ) (change : Change) (fate : Fate) → IsDecidedChange t s change → NobodyWaits s →
     NobodyWaits (settled s x id change fate)

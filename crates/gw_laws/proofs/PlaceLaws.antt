@@ -6,7 +6,7 @@ use Rattle.std.proofs.lemmas.List.Elements.{Contains-append_cases}
 use Rattle.gw_names.specs.declared.key.Key.{Key}
 use Rattle.gw_names.specs.Keys.{key_eq}
 use Rattle.gw_entities.specs.Tables.{value_of, with_value}
-use Rattle.gw_entities.proofs.ComingLaws.{key_same}
+use Rattle.gw_entities.proofs.QueueArrivalLaws.{key_same}
 use Rattle.gw_entities.proofs.TableLaws.{key_eq_equiv}
 use Rattle.gw_meaning.specs.declared.transaction.Transaction.{Transaction}
 use Rattle.gw_meaning.specs.declared.transaction.Event.{Event}
@@ -63,11 +63,11 @@ module _ (test : Transaction → Bool) where
     go true rest = let both = many_append test d.1 (waiting ds) in omega arith
     go false rest = let both = many_append test d.1 (waiting ds) in omega arith
 
-  two_shares : (ds : List (Key × List Transaction)) (key other : Key) → key_eq key other ≡ false →
+  two_grants : (ds : List (Key × List Transaction)) (key other : Key) → key_eq key other ≡ false →
       many test (delay_at ds key) + many test (delay_at ds other) ≤ many test (waiting ds)
-  two_shares [] key other apart = omega arith
-  two_shares (d ∷ ds) key other apart =
-      go (key_eq key d.0) refl (key_eq other d.0) refl (delay_share ds key) (delay_share ds other) (two_shares ds key other apart)
+  two_grants [] key other apart = omega arith
+  two_grants (d ∷ ds) key other apart =
+      go (key_eq key d.0) refl (key_eq other d.0) refl (delay_share ds key) (delay_share ds other) (two_grants ds key other apart)
     where
       go : (a : Bool) → key_eq key d.0 ≡ a → (b : Bool) → key_eq other d.0 ≡ b → many test (delay_at ds key) ≤ many test (waiting ds) →
           many test (delay_at ds other) ≤ many test (waiting ds) → many test (delay_at ds key) + many test (delay_at ds other) ≤ many test (waiting ds) →
@@ -93,7 +93,7 @@ module _ (test : Transaction → Bool) where
   two_chains cs key other apart =
       let chain = ap (many test) (members_at cs key) in
       let second = ap (many test) (members_at cs other) in
-      let some = two_shares (members_of cs) key other apart in
+      let some = two_grants (members_of cs) key other apart in
       omega arith
 
   -- those in a place are among those in all places of its kind
@@ -116,7 +116,7 @@ module _ (test : Transaction → Bool) where
   one_place s (OnDelay key) (OnDelay other) once here there =
       elim (cases_Bool (key_eq key other)) [
         | inl is ↦ ap (λ k. OnDelay k) (key_same key other is)
-        | inr apart ↦ absurd (let some = two_shares s.delays key other apart in omega (arith, once, here, there, some))
+        | inr apart ↦ absurd (let some = two_grants s.delays key other apart in omega (arith, once, here, there, some))
       ]
   one_place s (OnUserChain key) (OnUserChain other) once here there =
       elim (cases_Bool (key_eq key other)) [
@@ -132,8 +132,8 @@ each_has_one_place t seed n s well within is p q x y here there same =
     let once = (all_numbered t seed well n s is within).apart k in
     let first = has_one k (who_stands s p) x here refl in
     let second = has_one k (who_stands s q) y there (sym same) in
-    let one_share = share_is (has_number k) s p in
-    let other_share = share_is (has_number k) s q in
+    let one_grant = share_is (has_number k) s p in
+    let other_grant = share_is (has_number k) s q in
     one_place (has_number k) s p q once (omega arith) (omega arith)
 
 -- ---- in some place: no key has two delay chains, and none two user chains

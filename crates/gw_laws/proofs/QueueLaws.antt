@@ -3,13 +3,13 @@ use Rattle.std.proofs.Common.{ℕ, ◌≤◌, Bool, true, false, List, [], ◌�
 use Rattle.std.proofs.lemmas.List.Elements.{All-from_recursion}
 use Rattle.gw_names.specs.declared.key.Key.{Key}
 use Rattle.gw_entities.specs.Records.{Line, no_line, queued, departed}
-use Rattle.gw_meaning.specs.declared.entity_change.Deed.{Deed}
-use Rattle.gw_meaning.specs.declared.entity_change.Deed.TheVariants as deeds
-use Rattle.gw_meaning.specs.declared.entity_change.QueueDeed.TheVariants as of_queue
+use Rattle.gw_meaning.specs.declared.entity_change.Update.{Update}
+use Rattle.gw_meaning.specs.declared.entity_change.Update.TheVariants as updates
+use Rattle.gw_meaning.specs.declared.entity_change.QueueUpdate.TheVariants as of_queue
 use Rattle.gw_meaning.specs.Listing.{Listing}
 use Rattle.gw_meaning.specs.Entities.{Entities, line_at, done}
 use Rattle.gw_meaning.specs.Machine.{Machine}
-use Rattle.gw_frame.proofs.Known.{IsDecidedDeed, Fits, Leaves}
+use Rattle.gw_frame.proofs.Known.{IsDecidedUpdate, Fits, Leaves}
 use Rattle.gw_laws.specs.Queues.{IsWithin, QueuesAreWithin}
 use Rattle.gw_laws.proofs.Entries.{Each, at_has, with_has}
 use Rattle.gw_laws.proofs.EntityLaws.{KeepsEntities, over_entities}
@@ -55,13 +55,13 @@ departed_within clock units false q leaves h =
       at = omega (arith, h.at);
     }
 
-done_within : (t : Listing) (s : Machine) (key : Key) (deed : Deed) (number : ℕ) → IsDecidedDeed t s key deed → AreWithin s.clock s.entities.queues →
-    AreWithin s.clock (done key deed s.clock number s.entities).queues
-done_within t s key (deeds.Queue (of_queue.Queue units)) number fits all =
+done_within : (t : Listing) (s : Machine) (key : Key) (update : Update) (number : ℕ) → IsDecidedUpdate t s key update → AreWithin s.clock s.entities.queues →
+    AreWithin s.clock (done key update s.clock number s.entities).queues
+done_within t s key (updates.Queue (of_queue.Queue units)) number fits all =
     with_has (IsWithin s.clock) s.entities.queues key _ (queued_within s.clock units _ fits (line_within s.clock s.entities key all)) all
-done_within t s key (deeds.Queue (of_queue.Depart units at_once)) number leaves all =
+done_within t s key (updates.Queue (of_queue.Depart units at_once)) number leaves all =
     with_has (IsWithin s.clock) s.entities.queues key _ (departed_within s.clock units at_once _ leaves (line_within s.clock s.entities key all)) all
-done_within t s key deed number decided all = all
+done_within t s key update number decided all = all
 
 -- a later clock
 later_within : (clock later : ℕ) (qs : List (Key × Line)) → clock ≤ later → AreWithin clock qs → AreWithin later qs
@@ -96,7 +96,7 @@ keeps_queues : (t : Listing) → KeepsEntities t (λ n clock e. AreWithin clock 
 keeps_queues t = record {
   none = λ n. tt;
   further = λ n clock e all. all;
-  does = λ n s key deed number decided all. done_within t s key deed number decided all;
+  does = λ n s key update number decided all. done_within t s key update number decided all;
   goes_on = λ n before now e on all. later_within before now e.queues on all;
   anew = λ n clock e all. anew_within clock e.queues all;
 }

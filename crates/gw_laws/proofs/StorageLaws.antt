@@ -9,16 +9,16 @@ use Rattle.gw_names.specs.declared.key.Key.TheVariants as keys
 use Rattle.gw_names.specs.Keys.{key_eq}
 use Rattle.gw_entities.specs.Records.{Store, never_used, entered, left}
 use Rattle.gw_entities.specs.Tables.{value_of, with_value}
-use Rattle.gw_entities.proofs.ComingLaws.{key_same}
+use Rattle.gw_entities.proofs.QueueArrivalLaws.{key_same}
 use Rattle.gw_meaning.specs.declared.transaction.Transaction.{Transaction}
-use Rattle.gw_meaning.specs.declared.entity_change.Deed.{Deed}
-use Rattle.gw_meaning.specs.declared.entity_change.Deed.TheVariants as deeds
-use Rattle.gw_meaning.specs.declared.entity_change.StorageDeed.TheVariants as of_storage
+use Rattle.gw_meaning.specs.declared.entity_change.Update.{Update}
+use Rattle.gw_meaning.specs.declared.entity_change.Update.TheVariants as updates
+use Rattle.gw_meaning.specs.declared.entity_change.StorageUpdate.TheVariants as of_storage
 use Rattle.gw_meaning.specs.Listing.{Listing, capacity_at}
 use Rattle.gw_meaning.specs.Entities.{store_at, all_entered, done}
 use Rattle.gw_meaning.specs.Machine.{Machine, delay_at}
-use Rattle.gw_meaning.specs.Step.{beside, in_use, share_of, all_shares, run}
-use Rattle.gw_frame.proofs.Known.{does_fit, shares_of, ComesIn, GoesOut, IsDecidedDeed}
+use Rattle.gw_meaning.specs.Step.{beside, in_use, grant_of, all_granted, run}
+use Rattle.gw_frame.proofs.Known.{does_fit, grants_of, ComesIn, GoesOut, IsDecidedUpdate}
 use Rattle.gw_laws.specs.Storages.{IsWithin, IsStored, StoragesAreWithin}
 use Rattle.gw_laws.proofs.EntityLaws.{KeepsEntities, over_entities}
 use Rattle.gw_meaning.specs.Entities.{all_anew}
@@ -67,19 +67,19 @@ left_sound capacity clock units s h = record {
 }
 
 module _ (t : Listing) (clock : ℕ) where
-  -- those who are let in with a share of what is left
+  -- those who are let in with a grant of what is left
   shared_sound : (name : List ℕ) (chain : List Transaction) (content : ℕ) (s : Store) → s.level.content ≡ content →
-      s.entries + all_shares (shares_of t name content chain) ≤ 1000000000 → IsSound (capacity_at t name) clock s →
-      IsSound (capacity_at t name) clock (all_entered (shares_of t name content chain) clock s)
+      s.entries + all_granted (grants_of t name content chain) ≤ 1000000000 → IsSound (capacity_at t name) clock s →
+      IsSound (capacity_at t name) clock (all_entered (grants_of t name content chain) clock s)
   shared_sound name [] content s is few h = h
   shared_sound name (x ∷ xs) content s is few h =
       go (does_fit t name (beside x.asked content)) refl (shared_sound name xs) few
     where
       go : (fits : Bool) → does_fit t name (beside x.asked content) ≡ fits →
-          ((c : ℕ) (r : Store) → r.level.content ≡ c → r.entries + all_shares (shares_of t name c xs) ≤ 1000000000 → IsSound (capacity_at t name) clock r →
-          IsSound (capacity_at t name) clock (all_entered (shares_of t name c xs) clock r)) →
-          s.entries + all_shares (share_of x.asked fits ∷ shares_of t name (in_use content x.asked fits) xs) ≤ 1000000000 →
-          IsSound (capacity_at t name) clock (all_entered (share_of x.asked fits ∷ shares_of t name (in_use content x.asked fits) xs) clock s)
+          ((c : ℕ) (r : Store) → r.level.content ≡ c → r.entries + all_granted (grants_of t name c xs) ≤ 1000000000 → IsSound (capacity_at t name) clock r →
+          IsSound (capacity_at t name) clock (all_entered (grants_of t name c xs) clock r)) →
+          s.entries + all_granted (grant_of x.asked fits ∷ grants_of t name (in_use content x.asked fits) xs) ≤ 1000000000 →
+          IsSound (capacity_at t name) clock (all_entered (grant_of x.asked fits ∷ grants_of t name (in_use content x.asked fits) xs) clock s)
       go false fits rest few = rest content s is few h
       go true fits rest few =
           let room = leb-true (beside x.asked content) (capacity_at t name) fits in
@@ -123,48 +123,48 @@ FitsIn t s name units key = (does_fit t name (beside units (store_at s.entities 
     1000000000)
 
 abbrev pub LeavesTo : Listing → Machine → List ℕ → ℕ → List (Option ℕ) → Key → Type 0
-LeavesTo t s name units shares key =
-    (shares ≡ shares_of t name ((store_at s.entities key).level.content - units) (delay_at s.delays key))
-    × ((store_at s.entities key).entries + all_shares shares ≤ 1000000000)
+LeavesTo t s name units grants key =
+    (grants ≡ grants_of t name ((store_at s.entities key).level.content - units) (delay_at s.delays key))
+    × ((store_at s.entities key).entries + all_granted grants ≤ 1000000000)
 
 comes_in : (t : Listing) (s : Machine) (key : Key) (units : ℕ) (h : ComesIn t s key units) → FitsIn t s h.name units (keys.Defined h.name)
 comes_in t s key units h = subst (FitsIn t s h.name units) h.named (h.fits, h.entries)
 
-pub goes_out : (t : Listing) (s : Machine) (key : Key) (units : ℕ) (shares : List (Option ℕ)) (h : GoesOut t s key units shares) →
-    LeavesTo t s h.name units shares (keys.Defined h.name)
-goes_out t s key units shares h = subst (LeavesTo t s h.name units shares) h.named (h.shared, h.entries)
+pub goes_out : (t : Listing) (s : Machine) (key : Key) (units : ℕ) (grants : List (Option ℕ)) (h : GoesOut t s key units grants) →
+    LeavesTo t s h.name units grants (keys.Defined h.name)
+goes_out t s key units grants h = subst (LeavesTo t s h.name units grants) h.named (h.shared, h.entries)
 
 enter_kept : (t : Listing) (s : Machine) (name : List ℕ) (units number : ℕ) → FitsIn t s name units (keys.Defined name) →
-    AreKept t s.clock s.entities.storages → AreKept t s.clock (done (keys.Defined name) (deeds.Storage (of_storage.Enter units)) s.clock number s.entities).storages
+    AreKept t s.clock s.entities.storages → AreKept t s.clock (done (keys.Defined name) (updates.Storage (of_storage.Enter units)) s.clock number s.entities).storages
 enter_kept t s name units number h all =
     let store = store_at s.entities (keys.Defined name) in
     let room = leb-true (beside units store.level.content) (capacity_at t name) h.0 in
     with_sound t s.clock s.entities.storages name (entered units s.clock store)
     (entered_sound (capacity_at t name) s.clock units store room h.1 (store_sound t s.clock s.entities.storages name all)) all
 
-leave_kept : (t : Listing) (s : Machine) (name : List ℕ) (units : ℕ) (shares : List (Option ℕ)) (number : ℕ) →
-    LeavesTo t s name units shares (keys.Defined name) → AreKept t s.clock s.entities.storages →
-    AreKept t s.clock (done (keys.Defined name) (deeds.Storage (of_storage.Leave units shares)) s.clock number s.entities).storages
-leave_kept t s name units shares number h all =
+leave_kept : (t : Listing) (s : Machine) (name : List ℕ) (units : ℕ) (grants : List (Option ℕ)) (number : ℕ) →
+    LeavesTo t s name units grants (keys.Defined name) → AreKept t s.clock s.entities.storages →
+    AreKept t s.clock (done (keys.Defined name) (updates.Storage (of_storage.Leave units grants)) s.clock number s.entities).storages
+leave_kept t s name units grants number h all =
     let store = store_at s.entities (keys.Defined name) in
     let chain = delay_at s.delays (keys.Defined name) in
     let content = store.level.content - units in
-    let few : store.entries + all_shares (shares_of t name content chain) ≤ 1000000000 =
-    subst (λ rs. store.entries + all_shares rs ≤ 1000000000) h.0 h.1 in
-    with_sound t s.clock s.entities.storages name (all_entered shares s.clock (left units s.clock store))
+    let few : store.entries + all_granted (grants_of t name content chain) ≤ 1000000000 =
+    subst (λ rs. store.entries + all_granted rs ≤ 1000000000) h.0 h.1 in
+    with_sound t s.clock s.entities.storages name (all_entered grants s.clock (left units s.clock store))
     (subst (λ rs. IsSound (capacity_at t name) s.clock (all_entered rs s.clock (left units s.clock store))) (sym h.0)
     (shared_sound t s.clock name chain content (left units s.clock store) refl few
     (left_sound (capacity_at t name) s.clock units store (store_sound t s.clock s.entities.storages name all)))) all
 
-done_kept : (t : Listing) (s : Machine) (key : Key) (deed : Deed) (number : ℕ) → IsDecidedDeed t s key deed → AreKept t s.clock s.entities.storages →
-    AreKept t s.clock (done key deed s.clock number s.entities).storages
-done_kept t s key (deeds.Storage (of_storage.Enter units)) number decided all =
-    subst (λ k. AreKept t s.clock (done k (deeds.Storage (of_storage.Enter units)) s.clock number s.entities).storages) (sym decided.named)
+done_kept : (t : Listing) (s : Machine) (key : Key) (update : Update) (number : ℕ) → IsDecidedUpdate t s key update → AreKept t s.clock s.entities.storages →
+    AreKept t s.clock (done key update s.clock number s.entities).storages
+done_kept t s key (updates.Storage (of_storage.Enter units)) number decided all =
+    subst (λ k. AreKept t s.clock (done k (updates.Storage (of_storage.Enter units)) s.clock number s.entities).storages) (sym decided.named)
     (enter_kept t s decided.name units number (comes_in t s key units decided) all)
-done_kept t s key (deeds.Storage (of_storage.Leave units shares)) number decided all =
-    subst (λ k. AreKept t s.clock (done k (deeds.Storage (of_storage.Leave units shares)) s.clock number s.entities).storages) (sym decided.named)
-    (leave_kept t s decided.name units shares number (goes_out t s key units shares decided) all)
-done_kept t s key deed number decided all = all
+done_kept t s key (updates.Storage (of_storage.Leave units grants)) number decided all =
+    subst (λ k. AreKept t s.clock (done k (updates.Storage (of_storage.Leave units grants)) s.clock number s.entities).storages) (sym decided.named)
+    (leave_kept t s decided.name units grants number (goes_out t s key units grants decided) all)
+done_kept t s key update number decided all = all
 
 -- a later clock
 later_kept : (t : Listing) (clock later : ℕ) (es : List (Key × Store)) → clock ≤ later → AreKept t clock es → AreKept t later es
@@ -208,7 +208,7 @@ keeps_storages : (t : Listing) → KeepsEntities t (λ n clock e. AreKept t cloc
 keeps_storages t = record {
   none = λ n. tt;
   further = λ n clock e all. all;
-  does = λ n s key deed number decided all. done_kept t s key deed number decided all;
+  does = λ n s key update number decided all. done_kept t s key update number decided all;
   goes_on = λ n before now e on all. later_kept t before now e.storages on all;
   anew = λ n clock e all. anew_kept t clock e.storages all;
 }

@@ -3,7 +3,7 @@ use Rattle.std.proofs.Common.{◌≡◌, ℕ, ℤ, List, [], ◌∷◌, Option, 
 use Rattle.gw_streams.specs.declared.stream.Stream.{Stream}
 use Rattle.gw_names.specs.declared.key.Key.{Key}
 use Rattle.gw_entities.specs.Parameters.{values_at}
-use Rattle.gw_meaning.specs.declared.entity_change.Deed.{Deed}
+use Rattle.gw_meaning.specs.declared.entity_change.Update.{Update}
 use Rattle.gw_meaning.specs.declared.moves.Arrival.{Arrival}
 use Rattle.gw_meaning.specs.declared.moves.Change.{Change}
 use Rattle.gw_meaning.specs.declared.moves.Change.TheVariants as changes
@@ -13,7 +13,7 @@ use Rattle.gw_expr.specs.declared.halt.End.{End}
 use Rattle.gw_meaning.specs.declared.transaction.Transaction.{Transaction}
 use Rattle.gw_meaning.specs.Listing.{Listing}
 use Rattle.gw_meaning.specs.Machine.{Machine, delay_at, user_chain_at, zero_state}
-use Rattle.gw_meaning.specs.Changes.{deed_shares, making_of, with_making, made, admitted, one_copied, all_copied, one_unlinked, with_active, changed, decided}
+use Rattle.gw_meaning.specs.Changes.{update_grants, making_of, with_making, made, admitted, one_copied, all_copied, one_unlinked, with_active, changed, decided}
 use Rattle.gw_meaning.specs.Questions.{Answer, ask, result_of}
 use Rattle.gw_meaning.specs.Evaluation.{Eval, gives, ends_with, asks, ◌~>◌}
 use Rattle.gw_meaning.specs.Step.{run}
@@ -76,8 +76,8 @@ pub record AllKeep (Q : Machine → Type 0) : Type 0 where
   pub unlinks : (w : Machine) (key : Key) (to : Option ℕ) (x : Transaction) (xs : List Transaction) → (user_chain_at w.linked key).members ≡ x ∷ xs →
       Q w → Q (one_unlinked key to x xs w)
 
-admitted_keeps : (Q : Machine → Type 0) (key : Key) (deed : Deed) (v : Machine) → LetsIn Q → Q v → Q (admitted key deed v)
-admitted_keeps Q key deed v lets h = some_have Q key (deed_shares deed) [] (delay_at v.delays key) v refl lets h
+admitted_keeps : (Q : Machine → Type 0) (key : Key) (update : Update) (v : Machine) → LetsIn Q → Q v → Q (admitted key update v)
+admitted_keeps Q key update v lets h = some_have Q key (update_grants update) [] (delay_at v.delays key) v refl lets h
 
 pub changed_keeps : (Q : Machine → Type 0) (change : Change) (v : Machine) → AllKeep Q → Q v → Q (changed change v)
 changed_keeps Q (changes.Generate (Some a)) v keep h = keep.makes a v h

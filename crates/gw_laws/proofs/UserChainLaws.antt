@@ -8,7 +8,7 @@ use Rattle.gw_names.specs.declared.key.Key.{Key}
 use Rattle.gw_names.specs.Keys.{key_eq}
 use Rattle.gw_names.specs.declared.verb.BlockVerb.{BlockVerb}
 use Rattle.gw_names.specs.declared.verb.BlockVerb.TheVariants as blocks
-use Rattle.gw_entities.proofs.ComingLaws.{key_same}
+use Rattle.gw_entities.proofs.QueueArrivalLaws.{key_same}
 use Rattle.gw_expr.specs.declared.expr.Discipline.{Discipline}
 use Rattle.gw_expr.specs.declared.expr.Discipline.TheVariants as disciplines
 use Rattle.gw_expr.specs.Term.{Order}

@@ -82,7 +82,7 @@ busy = record zero_state {
     savevalues = [];
     switches = [];
     tables = [];
-    comings = [];
+    queue_arrivals = [];
   };
   parameters = (1, (keys.Named [], pos 1) ∷ []) ∷ [];
 }

@@ -44,7 +44,7 @@ use Rattle.gw_meaning.specs.Watching.{Waiter, same_watched, is_watched, with_wat
 use Rattle.gw_meaning.specs.Machine.{Machine, UserChain, zero_state, count_at, delay_at}
 use Rattle.gw_meaning.specs.Questions.{result_of}
 use Rattle.gw_meaning.specs.Evaluation.{Eval, gives, asks, ◌~>◌, amount, numbered, subject_prog, defined_prog, left_prog, counted, block_count, owned, one_if, value_held, parameter_value, value_there, entity_value, table_value, attribute_prog, reply_prog, evaluated, entity_watched, defined_watched, counts_of, counts_watched, watched_prog, watched_by, traced, value_traced}
-use Rattle.gw_meaning.specs.Changes.{placed, all_copied, written_in, Making, made, maybe_made, all_made, making_of, deed_shares, let_in, one_let_in, some_let_in, changed, entering, refused, watching, with_active, moved, crossing, crossings, written_by, written_where, written, is_woken, decided}
+use Rattle.gw_meaning.specs.Changes.{placed, all_copied, written_in, Making, made, maybe_made, all_made, making_of, update_grants, let_in, one_let_in, some_let_in, changed, entering, refused, watching, with_active, moved, crossing, crossings, written_by, written_where, written, is_woken, decided}
 use Rattle.gw_meaning.specs.Step.{for_one, holds, test_prog, block_prog, run}
 use Rattle.gw_meaning.proofs.Traces as alone
 use Rattle.gw_meaning.proofs.Programs.{bind_gives}
@@ -398,15 +398,15 @@ module _ (p : ℕ) where
       let second = or_parts (nat_eq p id) false first.1 in
       tally_elsewhere fates.Active v.counts x.current id p first.0 second.0
 
-  some_tally : (key : Key) (shares : List (Option ℕ)) (passed chain : List Transaction) (v : Machine) → IsUnwritten (crossings shares chain) →
-      tally (some_let_in key shares passed chain v).counts p ≡ tally v.counts p
+  some_tally : (key : Key) (grants : List (Option ℕ)) (passed chain : List Transaction) (v : Machine) → IsUnwritten (crossings grants chain) →
+      tally (some_let_in key grants passed chain v).counts p ≡ tally v.counts p
   some_tally key [] passed chain v is = refl
-  some_tally key (share ∷ shares) passed [] v is = refl
-  some_tally key (None ∷ shares) passed (x ∷ xs) v is = some_tally key shares (passed ++ x ∷ []) xs v is
-  some_tally key (Some units ∷ shares) passed (x ∷ xs) v is =
-      let parts = or_parts (is_watched (crossing x x.destination) (watched.Counts p)) (is_watched (crossings shares xs) (watched.Counts p))
-      (sym (list_any-append (same_watched (watched.Counts p)) (crossing x x.destination) (crossings shares xs)) ∙ is) in
-      some_tally key shares passed xs (one_let_in key x (passed ++ xs) v) parts.1
+  some_tally key (grant ∷ grants) passed [] v is = refl
+  some_tally key (None ∷ grants) passed (x ∷ xs) v is = some_tally key grants (passed ++ x ∷ []) xs v is
+  some_tally key (Some units ∷ grants) passed (x ∷ xs) v is =
+      let parts = or_parts (is_watched (crossing x x.destination) (watched.Counts p)) (is_watched (crossings grants xs) (watched.Counts p))
+      (sym (list_any-append (same_watched (watched.Counts p)) (crossing x x.destination) (crossings grants xs)) ∙ is) in
+      some_tally key grants passed xs (one_let_in key x (passed ++ xs) v) parts.1
       ∙ let_in_tally x x.destination (record v { delays = with_value v.delays key (passed ++ xs) }) parts.0
 
   maybe_made_tally : (next : Option Arrival) (w : Making) → tally (maybe_made next w).counts p ≡ tally w.counts p
@@ -433,8 +433,8 @@ module _ (p : ℕ) where
   changed_tally s v (changes.Unlink key count to) same apart is = ap (λ cs. tally cs p) (unlink_is v key count to).counts
   changed_tally s v (changes.Entity change) same apart is =
       let chain = ap (λ ds. delay_at ds change.0) same in
-      some_tally change.0 (deed_shares change.1) [] (delay_at v.delays change.0) v
-      (subst (λ xs. IsUnwritten (crossings (deed_shares change.1) xs)) (sym chain) is)
+      some_tally change.0 (update_grants change.1) [] (delay_at v.delays change.0) v
+      (subst (λ xs. IsUnwritten (crossings (update_grants change.1) xs)) (sym chain) is)
   changed_tally s v (changes.Transaction change) same apart is = refl
   changed_tally s v changes.Nothing same apart is = refl
 

@@ -19,7 +19,7 @@ use Rattle.gw_meaning.specs.Listing.{Listing}
 use Rattle.gw_meaning.specs.Machine.{Machine, delay_at, waiting}
 use Rattle.gw_meaning.specs.Questions.{result_of}
 use Rattle.gw_meaning.specs.Step.{decide, step}
-use Rattle.gw_meaning.specs.Changes.{placed, deed_shares, one_let_in, some_let_in, entering, with_active, moved, crossing, crossings, written_by, written_in, written_where, written, is_woken, woken, decided}
+use Rattle.gw_meaning.specs.Changes.{placed, update_grants, one_let_in, some_let_in, entering, with_active, moved, crossing, crossings, written_by, written_in, written_where, written, is_woken, woken, decided}
 use Rattle.gw_frame.proofs.Moves.{settled, settled_is}
 use Rattle.gw_laws.specs.Waiters.{NobodyWakesWhereNoneIsActive, HasToWait, NobodyWakesWhereTheActiveHasToWait, IsEntry, NobodyWakesUnlessABlockIsEntered, IsLeftOrEntered, LeavesForItsBlock, IsChangedBy, IsChanged, WhoWakesReadWhatChanged}
 use Rattle.gw_laws.proofs.Waiting.{let_in_as, let_in_is, lined_keeps, lined_has}
@@ -131,13 +131,13 @@ stands_either (z ∷ zs) ys x (inl same) = inl (inl same)
 stands_either (z ∷ zs) ys x (inr there) = elim (stands_either zs ys x there) [ inl front ↦ inl (inr front) | inr behind ↦ inr behind ]
 
 -- whoever stands on the current chain stands there still where some are let in
-some_keep : (key : Key) (shares : List (Option ℕ)) (passed chain : List Transaction) (w : Machine) (z : Transaction) → Contains w.current z →
-    Contains (some_let_in key shares passed chain w).current z
+some_keep : (key : Key) (grants : List (Option ℕ)) (passed chain : List Transaction) (w : Machine) (z : Transaction) → Contains w.current z →
+    Contains (some_let_in key grants passed chain w).current z
 some_keep key [] passed chain w z there = there
-some_keep key (share ∷ shares) passed [] w z there = there
-some_keep key (None ∷ shares) passed (x ∷ xs) w z there = some_keep key shares (passed ++ x ∷ []) xs w z there
-some_keep key (Some units ∷ shares) passed (x ∷ xs) w z there =
-    some_keep key shares passed xs (one_let_in key x (passed ++ xs) w) z
+some_keep key (grant ∷ grants) passed [] w z there = there
+some_keep key (None ∷ grants) passed (x ∷ xs) w z there = some_keep key grants (passed ++ x ∷ []) xs w z there
+some_keep key (Some units ∷ grants) passed (x ∷ xs) w z there =
+    some_keep key grants passed xs (one_let_in key x (passed ++ xs) w) z
     (subst (λ ys. Contains ys z) (sym (let_in_is key x (passed ++ xs) w).current) (lined_keeps (let_in_as x x.destination) w.current z there))
 
 -- of a delay chain: one that is let in, and that leaves or enters a block whose counts are r
@@ -149,18 +149,18 @@ record LetsInBy (chain : List Transaction) (v : Machine) (r : Watched) : Type 0 
   stands : Contains v.current (placed x to)
   counts : (watched.Counts x.current ≡ r) ⊎ (watched.Counts to ≡ r)
 
-crossed_by : (key : Key) (shares : List (Option ℕ)) (passed chain : List Transaction) (w : Machine) (r : Watched) → Stands (crossings shares chain) r →
-    LetsInBy chain (some_let_in key shares passed chain w) r
+crossed_by : (key : Key) (grants : List (Option ℕ)) (passed chain : List Transaction) (w : Machine) (r : Watched) → Stands (crossings grants chain) r →
+    LetsInBy chain (some_let_in key grants passed chain w) r
 crossed_by key [] passed chain w r there = absurd there
-crossed_by key (share ∷ shares) passed [] w r there = absurd there
-crossed_by key (None ∷ shares) passed (x ∷ xs) w r there =
-    let rest = crossed_by key shares (passed ++ x ∷ []) xs w r there in
+crossed_by key (grant ∷ grants) passed [] w r there = absurd there
+crossed_by key (None ∷ grants) passed (x ∷ xs) w r there =
+    let rest = crossed_by key grants (passed ++ x ∷ []) xs w r there in
     record { x = rest.x; to = rest.to; waited = inr rest.waited; goes = rest.goes; stands = rest.stands; counts = rest.counts }
-crossed_by key (Some units ∷ shares) passed (x ∷ xs) w r there =
-    elim (stands_either (crossing x x.destination) (crossings shares xs) r there) [
+crossed_by key (Some units ∷ grants) passed (x ∷ xs) w r there =
+    elim (stands_either (crossing x x.destination) (crossings grants xs) r there) [
       | inl front ↦ go x.destination refl front
       | inr behind ↦
-          let rest = crossed_by key shares passed xs v r behind in
+          let rest = crossed_by key grants passed xs v r behind in
           record { x = rest.x; to = rest.to; waited = inr rest.waited; goes = rest.goes; stands = rest.stands; counts = rest.counts }
     ]
   where
@@ -174,17 +174,17 @@ crossed_by key (Some units ∷ shares) passed (x ∷ xs) w r there =
         (lined_has (let_in_as x x.destination) w.current))
 
     lets : (to : ℕ) → x.destination ≡ Some to → (watched.Counts x.current ≡ r) ⊎ (watched.Counts to ≡ r) →
-        LetsInBy (x ∷ xs) (some_let_in key shares passed xs v) r
+        LetsInBy (x ∷ xs) (some_let_in key grants passed xs v) r
     lets to is counts = record {
       x = x;
       to = to;
       waited = inl refl;
       goes = is;
-      stands = some_keep key shares passed xs v (placed x to) (here (Some to) is);
+      stands = some_keep key grants passed xs v (placed x to) (here (Some to) is);
       counts = counts;
     }
 
-    go : (o : Option ℕ) → x.destination ≡ o → Stands (crossing x o) r → LetsInBy (x ∷ xs) (some_let_in key shares passed xs v) r
+    go : (o : Option ℕ) → x.destination ≡ o → Stands (crossing x o) r → LetsInBy (x ∷ xs) (some_let_in key grants passed xs v) r
     go None is front = absurd front
     go (Some to) is (inl left') = lets to is (inl left')
     go (Some to) is (inr (inl entered')) = lets to is (inr entered')
@@ -217,8 +217,8 @@ module _ (s : Machine) (x : Transaction) (id : ℕ) (fate : Fate) (active : s.ac
     lets : LetsInBy (delay_at s.delays change.0) (entering s x id (changes.Entity change) fate) r
     lets =
         subst (λ xs. LetsInBy xs (entering s x id (changes.Entity change) fate) r) chain
-        (crossed_by change.0 (deed_shares change.1) [] (delay_at settles.delays change.0) settles r
-        (subst (λ xs. Stands (crossings (deed_shares change.1) xs) r) (sym chain) there))
+        (crossed_by change.0 (update_grants change.1) [] (delay_at settles.delays change.0) settles r
+        (subst (λ xs. Stands (crossings (update_grants change.1) xs) r) (sym chain) there))
 
     crosses : (block : ℕ) → IsLeftOrEntered lets.x lets.to block → IsChangedBy s v id (changes.Entity change) fate (watched.Counts block)
     crosses block is =

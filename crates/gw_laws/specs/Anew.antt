@@ -5,7 +5,7 @@ use Rattle.gw_entities.specs.Levels.{sum_up_to}
 use Rattle.gw_streams.specs.declared.stream.Stream.{Stream}
 use Rattle.gw_meaning.specs.declared.statement.Command.{Command}
 use Rattle.gw_meaning.specs.declared.statement.Command.TheVariants as commands
-use Rattle.gw_meaning.specs.declared.entity_change.Deed.TheVariants as deeds
+use Rattle.gw_meaning.specs.declared.entity_change.Update.TheVariants as updates
 use Rattle.gw_meaning.specs.declared.moves.Change.TheVariants as changes
 use Rattle.gw_meaning.specs.declared.moves.Fate.TheVariants as fates
 use Rattle.gw_meaning.specs.declared.moves.Move.{Move}
@@ -73,7 +73,7 @@ pub record NobodyMoved (s v : Machine) : Type 0 where
   pub storages : (key : Key) → (store_at v.entities key).level.content ≡ (store_at s.entities key).level.content
   pub savevalues : v.entities.savevalues ≡ s.entities.savevalues
   pub switches : v.entities.switches ≡ s.entities.switches
-  pub comings : v.entities.comings ≡ s.entities.comings
+  pub queue_arrivals : v.entities.queue_arrivals ≡ s.entities.queue_arrivals
   pub facility_lines : keys_of v.entities.facilities ≡ keys_of s.entities.facilities
   pub queue_lines : keys_of v.entities.queues ≡ keys_of s.entities.queues
   pub storage_lines : keys_of v.entities.storages ≡ keys_of s.entities.storages
@@ -108,7 +108,7 @@ ResetCountsAnew =
 
 -- a step's move is a TABULATE, which brings one value to a table
 abbrev pub IsTabulate : Key → ℤ → Move → Type 0
-IsTabulate key value m = (id : ℕ) × (m ≡ moves.Enter id (changes.Entity (key, deeds.Table value)) fates.Active)
+IsTabulate key value m = (id : ℕ) × (m ≡ moves.Enter id (changes.Entity (key, updates.Table value)) fates.Active)
 
 -- one value comes to a table, after its others, and no other entity changes
 pub record OneValueMore (key : Key) (value : ℤ) (before after : Entities) : Type 0 where
@@ -119,7 +119,7 @@ pub record OneValueMore (key : Key) (value : ℤ) (before after : Entities) : Ty
   pub storages : after.storages ≡ before.storages
   pub savevalues : after.savevalues ≡ before.savevalues
   pub switches : after.switches ≡ before.switches
-  pub comings : after.comings ≡ before.comings
+  pub queue_arrivals : after.queue_arrivals ≡ before.queue_arrivals
 
 abbrev pub TabulateAddsOneValue : Type 0
 TabulateAddsOneValue =

@@ -2,7 +2,7 @@
 -- step limit, since numbers tell transactions apart there.)
 use Rattle.std.specs.Prelude.{◌≡◌, ◌≢◌, ℕ, zero, suc, ◌+◌, ◌<◌, ◌≤◌, false, List, [], ◌∷◌, ◌++◌, Option, Some, Ok, Contains}
 use Rattle.gw_names.specs.declared.key.Key.{Key}
-use Rattle.gw_entities.specs.Comings.{came}
+use Rattle.gw_entities.specs.QueueArrivals.{came}
 use Rattle.gw_entities.specs.Parameters.{parameter_at}
 use Rattle.gw_streams.specs.declared.stream.Stream.{Stream}
 use Rattle.gw_meaning.specs.declared.transaction.Transaction.{Transaction}
@@ -64,7 +64,7 @@ CopiesInherit =
 abbrev pub CopiesCameToNoQueue : Type 0
 CopiesCameToNoQueue =
     (t : Listing) (seed : ℕ) (s v : Machine) (id count : ℕ) (to : Option ℕ) → IsSplit t seed s v id count to →
-    (number : ℕ) (queue : Key) → s.next ≤ number → came v.entities.comings queue number ≡ false
+    (number : ℕ) (queue : Key) → s.next ≤ number → came v.entities.queue_arrivals queue number ≡ false
 
 -- so many numbers, from this one on
 abbrev pub numbers_from : ℕ → ℕ → List ℕ

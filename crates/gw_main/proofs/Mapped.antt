@@ -72,7 +72,7 @@ module _ {D C : Type 0} (view : D → C) (version : C → Listing) (does : C →
   unanswered_seen : (d d' : D) (input output : List ℕ) → IsUnanswered (Answers VersionOf DoesOf WorksOf) d input output d' →
       IsUnanswered (Answers version does works) (view d) input output (view d')
   unanswered_seen d d' input output h =
-      record { earlier = h.earlier; line = h.line; last = h.last; whole = h.whole; untold = h.untold; says = says_seen h.says }
+      record { earlier = h.earlier; line = h.line; last = h.last; whole = h.whole; fallback = h.fallback; says = says_seen h.says }
 
   module _ {S K : Type 0} (took : S → List ℕ → S → Type 0) (ended : S → Type 0) (reads : S → ℕ) (wrote : K → List ℕ → K → Type 0) (writes : K → ℕ)
       (d d' : D) (source source' : S) (sink sink' : K) where

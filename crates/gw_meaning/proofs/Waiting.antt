@@ -20,8 +20,8 @@ use Rattle.gw_meaning.specs.declared.statement.Body.{Body}
 use Rattle.gw_meaning.specs.declared.statement.Body.TheVariants as bodies
 use Rattle.gw_meaning.specs.declared.statement.Numbered.{Numbered}
 use Rattle.gw_meaning.specs.declared.transaction.Transaction.{Transaction}
-use Rattle.gw_meaning.specs.declared.entity_change.Deed.{Deed}
-use Rattle.gw_meaning.specs.declared.entity_change.Deed.TheVariants as deeds
+use Rattle.gw_meaning.specs.declared.entity_change.Update.{Update}
+use Rattle.gw_meaning.specs.declared.entity_change.Update.TheVariants as updates
 use Rattle.gw_expr.specs.declared.halt.End.{End}
 use Rattle.gw_meaning.specs.declared.asker.Asker.{Asker}
 use Rattle.gw_meaning.specs.declared.moves.Change.TheVariants as changes
@@ -38,7 +38,7 @@ use Rattle.gw_meaning.specs.Questions.{Prog, result_of, items_of}
 use Rattle.gw_meaning.specs.declared.item.Item.TheVariants as items
 use Rattle.gw_meaning.specs.declared.item.Asked.TheVariants as asking
 use Rattle.gw_meaning.specs.declared.statement.Definition.TheVariants as definitions
-use Rattle.gw_meaning.specs.declared.entity_change.FacilityDeed.TheVariants as of_facility
+use Rattle.gw_meaning.specs.declared.entity_change.FacilityUpdate.TheVariants as of_facility
 use Rattle.gw_expr.specs.declared.token.Token.{Token}
 use Rattle.gw_expr.specs.declared.token.Token.TheVariants as tokens
 use Rattle.gw_expr.specs.declared.token.Operator.TheVariants as operators
@@ -69,8 +69,8 @@ some_wait = record zero_state {
 abbrev after : Move → Machine
 after m = decided some_wait m []
 
-abbrev changed : Key → Deed → Move
-changed key deed = moves.Enter 6 (changes.Entity (key, deed)) fates.Active
+abbrev changed : Key → Update → Move
+changed key update = moves.Enter 6 (changes.Entity (key, update)) fates.Active
 
 abbrev numbers_of : List Transaction → List ℕ
 numbers_of [] = []
@@ -81,17 +81,17 @@ numbers_waiting [] = []
 numbers_waiting (w ∷ ws) = w.transaction.number ∷ numbers_waiting ws
 
 -- a SAVEVALUE wakes both who read it, in order of waiting, also where the value stays; the third waits on
-both_wake : numbers_of (after (changed (keys.Num 1) (deeds.Savevalue (pos 0)))).current ≡ 3 ∷ 1 ∷ []
+both_wake : numbers_of (after (changed (keys.Num 1) (updates.Savevalue (pos 0)))).current ≡ 3 ∷ 1 ∷ []
 both_wake = refl
 
-one_waits_on : numbers_waiting (after (changed (keys.Num 1) (deeds.Savevalue (pos 0)))).retry ≡ 2 ∷ []
+one_waits_on : numbers_waiting (after (changed (keys.Num 1) (updates.Savevalue (pos 0)))).retry ≡ 2 ∷ []
 one_waits_on = refl
 
 -- an entry of block 8 wakes who read its counts, a switch with the savevalue's number nobody, the clock nobody
 entry_wakes : numbers_of (after (moves.Enter 8 changes.Nothing fates.Active)).current ≡ 2 ∷ []
 entry_wakes = refl
 
-switch_wakes_nobody : numbers_of (after (changed (keys.Num 1) (deeds.Switch true))).current ≡ []
+switch_wakes_nobody : numbers_of (after (changed (keys.Num 1) (updates.Switch true))).current ≡ []
 switch_wakes_nobody = refl
 
 clock_wakes_nobody : numbers_waiting (after (moves.Clock 50)).retry ≡ 3 ∷ 2 ∷ 1 ∷ []
@@ -206,7 +206,7 @@ two_chains = record zero_state {
 }
 
 handed_over_before_woken :
-    numbers_of (decided two_chains (changed (keys.Num 2) (deeds.Facility (of_facility.Release (Some 4)))) []).current ≡
+    numbers_of (decided two_chains (changed (keys.Num 2) (updates.Facility (of_facility.Release (Some 4)))) []).current ≡
     4 ∷ 5 ∷ []
 handed_over_before_woken = refl
 

@@ -14,10 +14,10 @@ use Rattle.gw_expr.specs.declared.expr.Discipline.{Discipline}
 use Rattle.gw_expr.specs.declared.expr.Discipline.TheVariants as disciplines
 use Rattle.gw_entities.specs.Tables.{with_value}
 use Rattle.gw_entities.specs.Parameters.{assigned, inherited, values_at, without}
-use Rattle.gw_meaning.specs.declared.entity_change.Deed.{Deed}
-use Rattle.gw_meaning.specs.declared.entity_change.Deed.TheVariants as deeds
-use Rattle.gw_meaning.specs.declared.entity_change.FacilityDeed.TheVariants as of_facility
-use Rattle.gw_meaning.specs.declared.entity_change.StorageDeed.TheVariants as of_storage
+use Rattle.gw_meaning.specs.declared.entity_change.Update.{Update}
+use Rattle.gw_meaning.specs.declared.entity_change.Update.TheVariants as updates
+use Rattle.gw_meaning.specs.declared.entity_change.FacilityUpdate.TheVariants as of_facility
+use Rattle.gw_meaning.specs.declared.entity_change.StorageUpdate.TheVariants as of_storage
 use Rattle.gw_meaning.specs.declared.moves.Arrival.{Arrival}
 use Rattle.gw_meaning.specs.declared.moves.Change.{Change}
 use Rattle.gw_meaning.specs.declared.moves.Change.TheVariants as changes
@@ -190,23 +190,23 @@ let_in x (Some id) s =
 abbrev pub one_let_in : Key → Transaction → List Transaction → Machine → Machine
 one_let_in key x others s = let_in x x.destination (record s { delays = with_value s.delays key others })
 
--- of a delay chain, after those who were passed over, each with a share is let in, one by one from the front
+-- of a delay chain, after those who were passed over, each with a grant is let in, one by one from the front
 abbrev pub some_let_in : Key → List (Option ℕ) → List Transaction → List Transaction → Machine → Machine
 some_let_in key [] passed chain s = s
-some_let_in key (share ∷ shares) passed [] s = s
-some_let_in key (None ∷ shares) passed (x ∷ xs) s = some_let_in key shares (passed ++ x ∷ []) xs s
-some_let_in key (Some units ∷ shares) passed (x ∷ xs) s =
-    some_let_in key shares passed xs (one_let_in key x (passed ++ xs) s)
+some_let_in key (grant ∷ grants) passed [] s = s
+some_let_in key (None ∷ grants) passed (x ∷ xs) s = some_let_in key grants (passed ++ x ∷ []) xs s
+some_let_in key (Some units ∷ grants) passed (x ∷ xs) s =
+    some_let_in key grants passed xs (one_let_in key x (passed ++ xs) s)
 
--- the shares of those of the delay chain whom a deed lets in: RELEASE the first of the facility's, where there is one;
--- LEAVE each of the storage's that has a share
-abbrev pub deed_shares : Deed → List (Option ℕ)
-deed_shares (deeds.Facility (of_facility.Release next)) = Some 1 ∷ []
-deed_shares (deeds.Storage (of_storage.Leave units shares)) = shares
-deed_shares deed = []
+-- the grants of those of the delay chain whom an update lets in: RELEASE the first of the facility's, where there is one;
+-- LEAVE each of the storage's that has a grant
+abbrev pub update_grants : Update → List (Option ℕ)
+update_grants (updates.Facility (of_facility.Release next)) = Some 1 ∷ []
+update_grants (updates.Storage (of_storage.Leave units grants)) = grants
+update_grants update = []
 
-abbrev pub admitted : Key → Deed → Machine → Machine
-admitted key deed s = some_let_in key (deed_shares deed) [] (delay_at s.delays key) s
+abbrev pub admitted : Key → Update → Machine → Machine
+admitted key update s = some_let_in key (update_grants update) [] (delay_at s.delays key) s
 
 -- a copy of a transaction, which stands where that does: it has a number of its own, and goes to this block, or on from
 -- its own where there is none
@@ -354,14 +354,14 @@ crossing x (Some id) = watched.Counts x.current ∷ watched.Counts id ∷ []
 -- the counts that those of a delay chain change who are let in
 abbrev pub crossings : List (Option ℕ) → List Transaction → List Watched
 crossings [] xs = []
-crossings (share ∷ shares) [] = []
-crossings (None ∷ shares) (x ∷ xs) = crossings shares xs
-crossings (Some units ∷ shares) (x ∷ xs) = crossing x x.destination ++ crossings shares xs
+crossings (grant ∷ grants) [] = []
+crossings (None ∷ grants) (x ∷ xs) = crossings grants xs
+crossings (Some units ∷ grants) (x ∷ xs) = crossing x x.destination ++ crossings grants xs
 
 abbrev pub written_by : Change → Machine → List Watched
 written_by (changes.Unlink key count to) s = watched.Entity kinds.UserChain key ∷ []
 written_by (changes.Entity change) s =
-    watched.Entity (kind_of change.1) change.0 ∷ crossings (deed_shares change.1) (delay_at s.delays change.0)
+    watched.Entity (kind_of change.1) change.0 ∷ crossings (update_grants change.1) (delay_at s.delays change.0)
 written_by change s = []
 
 -- the user chain to which the transaction is linked

@@ -5,15 +5,15 @@ use Rattle.std.specs.Prelude.{ℕ, ℤ, Bool, false, ◌==◌, List, [], ◌∷�
 use Rattle.gw_names.specs.declared.key.Key.{Key}
 use Rattle.gw_entities.specs.Records.{Ownership, never_owned, seized, released, facility_anew, Line, no_line, queued, departed, queue_anew, Store, never_used, entered, left, storage_anew}
 use Rattle.gw_entities.specs.Tables.{value_of, with_value}
-use Rattle.gw_entities.specs.Comings.{with_coming}
-use Rattle.gw_meaning.specs.declared.entity_change.Deed.{Deed}
-use Rattle.gw_meaning.specs.declared.entity_change.Deed.TheVariants as deeds
-use Rattle.gw_meaning.specs.declared.entity_change.FacilityDeed.{FacilityDeed}
-use Rattle.gw_meaning.specs.declared.entity_change.FacilityDeed.TheVariants as of_facility
-use Rattle.gw_meaning.specs.declared.entity_change.QueueDeed.{QueueDeed}
-use Rattle.gw_meaning.specs.declared.entity_change.QueueDeed.TheVariants as of_queue
-use Rattle.gw_meaning.specs.declared.entity_change.StorageDeed.{StorageDeed}
-use Rattle.gw_meaning.specs.declared.entity_change.StorageDeed.TheVariants as of_storage
+use Rattle.gw_entities.specs.QueueArrivals.{with_queue_arrival}
+use Rattle.gw_meaning.specs.declared.entity_change.Update.{Update}
+use Rattle.gw_meaning.specs.declared.entity_change.Update.TheVariants as updates
+use Rattle.gw_meaning.specs.declared.entity_change.FacilityUpdate.{FacilityUpdate}
+use Rattle.gw_meaning.specs.declared.entity_change.FacilityUpdate.TheVariants as of_facility
+use Rattle.gw_meaning.specs.declared.entity_change.QueueUpdate.{QueueUpdate}
+use Rattle.gw_meaning.specs.declared.entity_change.QueueUpdate.TheVariants as of_queue
+use Rattle.gw_meaning.specs.declared.entity_change.StorageUpdate.{StorageUpdate}
+use Rattle.gw_meaning.specs.declared.entity_change.StorageUpdate.TheVariants as of_storage
 use Rattle.gw_meaning.specs.declared.moves.Change.{Change}
 use Rattle.gw_meaning.specs.declared.moves.Change.TheVariants as changes
 
@@ -27,7 +27,7 @@ pub record Entities : Type 0 where
   -- the values of each table, in the order in which they came
   pub tables : List (Key × List ℤ)
   -- which transaction came to which queue since the clock stands as it does
-  pub comings : List (Key × ℕ)
+  pub queue_arrivals : List (Key × ℕ)
 
 -- nothing is touched yet
 abbrev pub no_entities : Entities
@@ -38,7 +38,7 @@ no_entities = record {
   savevalues = [];
   switches = [];
   tables = [];
-  comings = [];
+  queue_arrivals = [];
 }
 
 -- a facility: one that nothing touched is free
@@ -73,42 +73,42 @@ given_back (Some number) clock f = seized number clock (released clock f)
 -- a storage into which those of its delay chain who are let in come, one by one
 abbrev pub all_entered : List (Option ℕ) → ℕ → Store → Store
 all_entered [] clock s = s
-all_entered (None ∷ shares) clock s = all_entered shares clock s
-all_entered (Some units ∷ shares) clock s = all_entered shares clock (entered units clock s)
+all_entered (None ∷ grants) clock s = all_entered grants clock s
+all_entered (Some units ∷ grants) clock s = all_entered grants clock (entered units clock s)
 
--- what a deed makes of a facility, a queue and a storage, at a clock, where the transaction with a number enters the
+-- what an update makes of a facility, a queue and a storage, at a clock, where the transaction with a number enters the
 -- block
-abbrev pub done_to_facility : FacilityDeed → ℕ → ℕ → Ownership → Ownership
+abbrev pub done_to_facility : FacilityUpdate → ℕ → ℕ → Ownership → Ownership
 done_to_facility of_facility.Seize clock number f = seized number clock f
 done_to_facility (of_facility.Release next) clock number f = given_back next clock f
 
-abbrev pub done_to_queue : QueueDeed → ℕ → Line → Line
+abbrev pub done_to_queue : QueueUpdate → ℕ → Line → Line
 done_to_queue (of_queue.Queue units) clock q = queued units clock q
 done_to_queue (of_queue.Depart units at_once) clock q = departed units clock at_once q
 
-abbrev pub done_to_storage : StorageDeed → ℕ → Store → Store
+abbrev pub done_to_storage : StorageUpdate → ℕ → Store → Store
 done_to_storage (of_storage.Enter units) clock s = entered units clock s
-done_to_storage (of_storage.Leave units shares) clock s = all_entered shares clock (left units clock s)
+done_to_storage (of_storage.Leave units grants) clock s = all_entered grants clock (left units clock s)
 
--- who came to a queue, after a deed
-abbrev pub comings_behind : QueueDeed → Key → ℕ → List (Key × ℕ) → List (Key × ℕ)
-comings_behind (of_queue.Queue units) key number comings = with_coming comings key number
-comings_behind deed key number comings = comings
+-- who came to a queue, after an update
+abbrev pub queue_arrivals_after : QueueUpdate → Key → ℕ → List (Key × ℕ) → List (Key × ℕ)
+queue_arrivals_after (of_queue.Queue units) key number queue_arrivals = with_queue_arrival queue_arrivals key number
+queue_arrivals_after update key number queue_arrivals = queue_arrivals
 
--- what a deed makes of the entities: it sets the one of its kind with the key
-abbrev pub done : Key → Deed → ℕ → ℕ → Entities → Entities
-done key (deeds.Facility deed) clock number e = record e {
-  facilities = with_value e.facilities key (done_to_facility deed clock number (facility_at e key));
+-- what an update makes of the entities: it sets the one of its kind with the key
+abbrev pub done : Key → Update → ℕ → ℕ → Entities → Entities
+done key (updates.Facility update) clock number e = record e {
+  facilities = with_value e.facilities key (done_to_facility update clock number (facility_at e key));
 }
-done key (deeds.Queue deed) clock number e = record e {
-  queues = with_value e.queues key (done_to_queue deed clock (line_at e key));
-  comings = comings_behind deed key number e.comings;
+done key (updates.Queue update) clock number e = record e {
+  queues = with_value e.queues key (done_to_queue update clock (line_at e key));
+  queue_arrivals = queue_arrivals_after update key number e.queue_arrivals;
 }
-done key (deeds.Storage deed) clock number e =
-    record e { storages = with_value e.storages key (done_to_storage deed clock (store_at e key)) }
-done key (deeds.Savevalue to) clock number e = record e { savevalues = with_value e.savevalues key to }
-done key (deeds.Switch set) clock number e = record e { switches = with_value e.switches key set }
-done key (deeds.Table value) clock number e =
+done key (updates.Storage update) clock number e =
+    record e { storages = with_value e.storages key (done_to_storage update clock (store_at e key)) }
+done key (updates.Savevalue to) clock number e = record e { savevalues = with_value e.savevalues key to }
+done key (updates.Switch set) clock number e = record e { switches = with_value e.switches key set }
+done key (updates.Table value) clock number e =
     record e { tables = with_value e.tables key (table_at e key ++ value ∷ []) }
 
 -- what the change of a block makes of them
@@ -118,7 +118,7 @@ touched change clock number e = e
 
 -- the clock goes on: nobody has come at another time yet
 abbrev pub later : ℕ → ℕ → Entities → Entities
-later before now e = record e { comings = if before == now then e.comings else [] }
+later before now e = record e { queue_arrivals = if before == now then e.queue_arrivals else [] }
 
 -- a RESET: each facility, queue and storage is counted anew, and each table loses its values. Savevalues and switches
 -- stay.

@@ -29,10 +29,10 @@ use Rattle.gw_meaning.specs.declared.transaction.Event.{Event}
 use Rattle.gw_streams.specs.declared.stream.Stream.{Stream}
 use Rattle.gw_streams.specs.Draws.{all_set}
 use Rattle.gw_meaning.specs.declared.moves.Arrival.{Arrival}
-use Rattle.gw_meaning.specs.declared.entity_change.Deed.TheVariants as deeds
-use Rattle.gw_meaning.specs.declared.entity_change.FacilityDeed.TheVariants as of_facility
-use Rattle.gw_meaning.specs.declared.entity_change.QueueDeed.TheVariants as of_queue
-use Rattle.gw_meaning.specs.declared.entity_change.StorageDeed.TheVariants as of_storage
+use Rattle.gw_meaning.specs.declared.entity_change.Update.TheVariants as updates
+use Rattle.gw_meaning.specs.declared.entity_change.FacilityUpdate.TheVariants as of_facility
+use Rattle.gw_meaning.specs.declared.entity_change.QueueUpdate.TheVariants as of_queue
+use Rattle.gw_meaning.specs.declared.entity_change.StorageUpdate.TheVariants as of_storage
 use Rattle.gw_meaning.specs.declared.auxiliary.Condition.{Condition}
 use Rattle.gw_meaning.specs.declared.auxiliary.Condition.TheVariants as conditions
 use Rattle.gw_meaning.specs.declared.auxiliary.Switching.{Switching}
@@ -52,7 +52,7 @@ use Rattle.gw_meaning.specs.Statements.{A, B, C, D, E, operand, is_generate_verb
 use Rattle.gw_meaning.specs.Listing.{Listing}
 use Rattle.gw_meaning.specs.Machine.{Machine, zero_state, raised, live, count_at, delay_at, user_chain_at}
 use Rattle.gw_entities.specs.Records.{Line, Store, capped}
-use Rattle.gw_entities.specs.Comings.{came}
+use Rattle.gw_entities.specs.QueueArrivals.{came}
 use Rattle.gw_entities.specs.Parameters.{parameter_at}
 use Rattle.gw_meaning.specs.Entities.{facility_at, line_at, store_at, savevalue_at, switch_at}
 use Rattle.gw_meaning.specs.Questions.{Prog, Gives, result_of, items_of, ◌>>=◌}
@@ -173,7 +173,7 @@ is_too_many n = nat_lt 1000000000 n
 abbrev pub queue_units : ℕ → Key → Line → ℕ → Eval Move
 queue_units id key line units =
     stops_if (is_too_many (line.entries + units) || is_too_many (line.level.content + units)) TooManyUnits
-    (gives (moves.Enter id (changes.Entity (key, deeds.Queue (of_queue.Queue units))) fates.Active))
+    (gives (moves.Enter id (changes.Entity (key, updates.Queue (of_queue.Queue units))) fates.Active))
 
 abbrev pub queue_prog : Machine → Asker → ℕ → Option Term → Option Term → Eval Move
 queue_prog s q id entity units =
@@ -183,17 +183,17 @@ abbrev pub depart_units : ℕ → Key → Line → Bool → ℕ → Eval Move
 depart_units id key line at_once units =
     stops_if (at_once && is_too_many (line.zero_entries + units)) TooManyUnits
     (stops_if (nat_lt line.level.content units) DepartTooMany
-    (gives (moves.Enter id (changes.Entity (key, deeds.Queue (of_queue.Depart units at_once))) fates.Active)))
+    (gives (moves.Enter id (changes.Entity (key, updates.Queue (of_queue.Depart units at_once))) fates.Active)))
 
 abbrev pub depart_prog : Machine → Asker → Transaction → ℕ → Option Term → Option Term → Eval Move
 depart_prog s q x id entity units = entity_prog s q entity ~> (λ key. units_prog s q units ~>
-    (λ n. depart_units id key (line_at s.entities key) (came s.entities.comings key x.number) n))
+    (λ n. depart_units id key (line_at s.entities key) (came s.entities.queue_arrivals key x.number) n))
 
 -- SEIZE, of a facility that may be owned; RELEASE, by its owner, for the first that waits.
 abbrev pub seize_or_wait : ℕ → Key → Bool → Eval Move
 seize_or_wait id key true = gives (moves.Refuse id key 1)
 seize_or_wait id key false =
-    gives (moves.Enter id (changes.Entity (key, deeds.Facility of_facility.Seize)) fates.Active)
+    gives (moves.Enter id (changes.Entity (key, updates.Facility of_facility.Seize)) fates.Active)
 
 abbrev pub seize_prog : Machine → Asker → ℕ → Option Term → Eval Move
 seize_prog s q id entity =
@@ -212,7 +212,7 @@ is_owner (Some owner) number = owner == number
 abbrev pub release_to : ℕ → Key → Bool → Option ℕ → Eval Move
 release_to id key owns next =
     stops_if (not owns) NotOwner
-    (gives (moves.Enter id (changes.Entity (key, deeds.Facility (of_facility.Release next))) fates.Active))
+    (gives (moves.Enter id (changes.Entity (key, updates.Facility (of_facility.Release next))) fates.Active))
 
 abbrev pub release_prog : Machine → Asker → Transaction → ℕ → Option Term → Eval Move
 release_prog s q x id entity = entity_prog s q entity ~> (λ key. release_to id key
@@ -227,7 +227,7 @@ beside units content = capped (units + content)
 abbrev pub enter_or_wait : ℕ → Key → Store → ℕ → Bool → Eval Move
 enter_or_wait id key store units true =
     stops_if (is_too_many (store.entries + units)) TooManyUnits
-    (gives (moves.Enter id (changes.Entity (key, deeds.Storage (of_storage.Enter units))) fates.Active))
+    (gives (moves.Enter id (changes.Entity (key, updates.Storage (of_storage.Enter units))) fates.Active))
 enter_or_wait id key store units false = gives (moves.Refuse id key units)
 
 abbrev pub enter_storage : ℕ → List ℕ → Store → ℕ → Bool → Eval Move
@@ -244,33 +244,33 @@ enter_prog s q id storage units = ends_with (ends.Error Range)
 
 -- LEAVE, of no more units than are in use: then each of the delay chain, from the front, is let in where its units fit
 -- beside those that are in use by then.
-abbrev pub share_of : ℕ → Bool → Option ℕ
-share_of units fits = if fits then Some units else None
+abbrev pub grant_of : ℕ → Bool → Option ℕ
+grant_of units fits = if fits then Some units else None
 
 abbrev pub in_use : ℕ → ℕ → Bool → ℕ
 in_use content units fits = if fits then beside units content else content
 
-abbrev pub shares_prog : List ℕ → ℕ → List (Option ℕ) → List Transaction → Eval (List (Option ℕ))
-shares_prog name content shares [] = gives shares
-shares_prog name content shares (x ∷ xs) = asks (items.Named (asking.Fits (beside x.asked content)) name)
-    (λ fits. shares_prog name (in_use content x.asked fits) (shares ++ share_of x.asked fits ∷ []) xs)
+abbrev pub grants_prog : List ℕ → ℕ → List (Option ℕ) → List Transaction → Eval (List (Option ℕ))
+grants_prog name content grants [] = gives grants
+grants_prog name content grants (x ∷ xs) = asks (items.Named (asking.Fits (beside x.asked content)) name)
+    (λ fits. grants_prog name (in_use content x.asked fits) (grants ++ grant_of x.asked fits ∷ []) xs)
 
 -- the units of those who are let in
-abbrev pub all_shares : List (Option ℕ) → ℕ
-all_shares [] = 0
-all_shares (None ∷ shares) = all_shares shares
-all_shares (Some units ∷ shares) = units + all_shares shares
+abbrev pub all_granted : List (Option ℕ) → ℕ
+all_granted [] = 0
+all_granted (None ∷ grants) = all_granted grants
+all_granted (Some units ∷ grants) = units + all_granted grants
 
 abbrev pub leave_for : ℕ → Key → Store → ℕ → List (Option ℕ) → Eval Move
-leave_for id key store units shares =
-    stops_if (is_too_many (store.entries + all_shares shares)) TooManyUnits
-    (gives (moves.Enter id (changes.Entity (key, deeds.Storage (of_storage.Leave units shares))) fates.Active))
+leave_for id key store units grants =
+    stops_if (is_too_many (store.entries + all_granted grants)) TooManyUnits
+    (gives (moves.Enter id (changes.Entity (key, updates.Storage (of_storage.Leave units grants))) fates.Active))
 
 abbrev pub leave_units : Machine → ℕ → List ℕ → Store → ℕ → Eval Move
 leave_units s id name store units =
     stops_if (nat_lt store.level.content units) LeaveTooMany
-    (shares_prog name (store.level.content - units) [] (delay_at s.delays (keys.Defined name)) ~>
-    (λ shares. leave_for id (keys.Defined name) store units shares))
+    (grants_prog name (store.level.content - units) [] (delay_at s.delays (keys.Defined name)) ~>
+    (λ grants. leave_for id (keys.Defined name) store units grants))
 
 abbrev pub leave_prog : Machine → Asker → ℕ → Option Term → Option Term → Eval Move
 leave_prog s q id (Some (Defined name)) units =
@@ -435,7 +435,7 @@ switched switchings.Reset was = false
 switched switchings.Invert was = not was
 
 abbrev pub logic_to : ℕ → Key → Bool → Eval Move
-logic_to id key set = gives (moves.Enter id (changes.Entity (key, deeds.Switch set)) fates.Active)
+logic_to id key set = gives (moves.Enter id (changes.Entity (key, updates.Switch set)) fates.Active)
 
 abbrev pub logic_of : Machine → Asker → ℕ → Switching → Option Term → Eval Move
 logic_of s q id switching entity =
@@ -448,7 +448,7 @@ logic_prog s q id auxiliary entity = ends_with (ends.Error NoNextBlock)
 -- SAVEVALUE: the savevalue is set to the value, or by a sign that is added to it or taken from it; one that is absent
 -- counts as 0 then.
 abbrev pub savevalue_to : ℕ → Key → ℤ → Eval Move
-savevalue_to id key to = gives (moves.Enter id (changes.Entity (key, deeds.Savevalue to)) fates.Active)
+savevalue_to id key to = gives (moves.Enter id (changes.Entity (key, updates.Savevalue to)) fates.Active)
 
 abbrev pub savevalue_with : ℕ → Auxiliary → Key → Option ℤ → ℤ → Eval Move
 savevalue_with id sign key was v = arithmetic (by_sign sign was v) ~> (λ to. savevalue_to id key to)
@@ -512,7 +512,7 @@ unlink_prog s q id entity label count =
 
 -- TABULATE: the argument of the table is evaluated, and its value comes to the table's others.
 abbrev pub tabulate_to : ℕ → Key → ℤ → Eval Move
-tabulate_to id key v = gives (moves.Enter id (changes.Entity (key, deeds.Table v)) fates.Active)
+tabulate_to id key v = gives (moves.Enter id (changes.Entity (key, updates.Table v)) fates.Active)
 
 abbrev pub tabulate_with : Machine → Asker → ℕ → Key → Option Term → Eval Move
 tabulate_with s q id key argument = value_there s q argument ~> (λ v. tabulate_to id key v)

@@ -2,8 +2,8 @@
 -- chains. Our own: the entries and the content of a block are one to those who wait.)
 use Rattle.std.specs.Prelude.{Bool, List, [], ◌∷◌, ◌++◌, if◌then◌else◌}
 use Rattle.std.specs.List.{list_any}
-use Rattle.gw_meaning.specs.declared.entity_change.Deed.{Deed}
-use Rattle.gw_meaning.specs.declared.entity_change.Deed.TheVariants as deeds
+use Rattle.gw_meaning.specs.declared.entity_change.Update.{Update}
+use Rattle.gw_meaning.specs.declared.entity_change.Update.TheVariants as updates
 use Rattle.gw_meaning.specs.declared.transaction.Transaction.{Transaction}
 use Rattle.gw_meaning.specs.declared.watched.EntityKind.{EntityKind}
 use Rattle.gw_meaning.specs.declared.watched.EntityKind.TheVariants as kinds
@@ -31,14 +31,14 @@ abbrev pub with_all_watched : List Watched → List Watched → List Watched
 with_all_watched list [] = list
 with_all_watched list (w ∷ ws) = with_all_watched (with_watched list w) ws
 
--- the kind of the entity that a deed changes
-abbrev pub kind_of : Deed → EntityKind
-kind_of (deeds.Facility deed) = kinds.Facility
-kind_of (deeds.Queue deed) = kinds.Queue
-kind_of (deeds.Storage deed) = kinds.Storage
-kind_of (deeds.Savevalue to) = kinds.Savevalue
-kind_of (deeds.Switch set) = kinds.Switch
-kind_of (deeds.Table value) = kinds.Table
+-- the kind of the entity that an update changes
+abbrev pub kind_of : Update → EntityKind
+kind_of (updates.Facility update) = kinds.Facility
+kind_of (updates.Queue update) = kinds.Queue
+kind_of (updates.Storage update) = kinds.Storage
+kind_of (updates.Savevalue to) = kinds.Savevalue
+kind_of (updates.Switch set) = kinds.Switch
+kind_of (updates.Table value) = kinds.Table
 
 -- the transactions of those who wait
 abbrev pub transactions_of : List Waiter → List Transaction

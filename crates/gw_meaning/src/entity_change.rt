@@ -5,10 +5,10 @@ use std::marker::Model;
 
 /// What a block makes of the entity that it names: one case for each kind of entity.
 #[derive(Drop)]
-pub enum Deed {
-    Facility(FacilityDeed),
-    Queue(QueueDeed),
-    Storage(StorageDeed),
+pub enum Update {
+    Facility(FacilityUpdate),
+    Queue(QueueUpdate),
+    Storage(StorageUpdate),
     /// The savevalue has this value.
     Savevalue { to: Val },
     /// The switch is set, or else reset.
@@ -19,7 +19,7 @@ pub enum Deed {
 
 /// What a block makes of a facility.
 #[derive(Clone, Copy)]
-pub enum FacilityDeed {
+pub enum FacilityUpdate {
     /// The transaction takes it.
     Seize,
     /// The transaction gives it back; `next` is the number of the first that waits for it, who takes it at once.
@@ -28,7 +28,7 @@ pub enum FacilityDeed {
 
 /// What a block makes of a queue.
 #[derive(Clone, Copy)]
-pub enum QueueDeed {
+pub enum QueueUpdate {
     /// So many units come.
     Queue { units: u64 },
     /// So many units leave; `at_once` says that the transaction came there while the clock stands as it does.
@@ -37,16 +37,16 @@ pub enum QueueDeed {
 
 /// What a block makes of a storage.
 #[derive(Drop)]
-pub enum StorageDeed {
+pub enum StorageUpdate {
     /// So many units come into use.
     Enter {
         units: u64,
     },
-    /// So many units are given back; `shares` has for each of its delay chain, from the front, the units with which it
+    /// So many units are given back; `grants` has for each of its delay chain, from the front, the units with which it
     /// is let in, and `None` where it goes on waiting.
     Leave {
         units: u64,
-        shares: Row<Option<u64>>,
+        grants: Row<Option<u64>>,
     },
 }
 
@@ -54,14 +54,14 @@ pub enum StorageDeed {
 #[derive(Drop)]
 pub struct EntityChange {
     pub key: Key,
-    pub deed: Deed,
+    pub update: Update,
 }
 
 impl Model for EntityChange {
     ghost use Rattle.gw_names.specs.declared.key.Key.{Key};
-    ghost use Rattle.gw_meaning.specs.declared.entity_change.Deed.{Deed};
+    ghost use Rattle.gw_meaning.specs.declared.entity_change.Update.{Update};
 
-    ghost Value = { Key × Deed };
+    ghost Value = { Key × Update };
 
-    ghost view = { λ c. (c.key, c.deed) };
+    ghost view = { λ c. (c.key, c.update) };
 }

@@ -25,7 +25,7 @@ mod watched;
 pub use asker::Asker;
 pub use auxiliary::{Auxiliary, Condition, Switching};
 pub use destination::Destination;
-pub use entity_change::{Deed, EntityChange, FacilityDeed, QueueDeed, StorageDeed};
+pub use entity_change::{EntityChange, FacilityUpdate, QueueUpdate, StorageUpdate, Update};
 pub use item::{Asked, Item, Outcome};
 pub use moves::{Arrival, Change, Fate, Move};
 pub use statement::{Block, Body, Command, Definition, Numbered, Replication, Statement};

@@ -14,12 +14,12 @@ use Rattle.gw_entities.specs.Parameters.{values_at}
 use Rattle.gw_meaning.specs.Machine.{Machine, raised, delay_at, user_chain_at}
 use Rattle.gw_streams.specs.declared.stream.Stream.{Stream}
 use Rattle.gw_names.specs.declared.key.Key.{Key}
-use Rattle.gw_meaning.specs.declared.entity_change.Deed.{Deed}
+use Rattle.gw_meaning.specs.declared.entity_change.Update.{Update}
 use Rattle.gw_meaning.specs.declared.moves.Change.{Change}
 use Rattle.gw_meaning.specs.declared.moves.Change.TheVariants as changes
 use Rattle.gw_meaning.specs.declared.moves.Fate.{Fate}
 use Rattle.gw_meaning.specs.declared.moves.Fate.TheVariants as fates
-use Rattle.gw_meaning.specs.Changes.{deed_shares, moved, decided, fated, let_in, one_let_in, some_let_in, admitted, all_copied, one_copied, some_unlinked, one_unlinked, changed, with_active, picked}
+use Rattle.gw_meaning.specs.Changes.{update_grants, moved, decided, fated, let_in, one_let_in, some_let_in, admitted, all_copied, one_copied, some_unlinked, one_unlinked, changed, with_active, picked}
 use Rattle.gw_meaning.specs.Step.{decide, step, step_items, run}
 use Rattle.gw_meaning.specs.Questions.{result_of}
 use Rattle.gw_expr.specs.declared.halt.End.{End}
@@ -184,16 +184,16 @@ complete_let_in x None s n h = h
 complete_let_in x (Some id) s n h = h
 
 complete_some :
-    (key : Key) (shares : List (Option ℕ)) (passed chain : List Transaction) (s : Machine) (n : ℕ) → s.complete ≤ n + 1 →
-    (some_let_in key shares passed chain s).complete ≤ n + 1
+    (key : Key) (grants : List (Option ℕ)) (passed chain : List Transaction) (s : Machine) (n : ℕ) → s.complete ≤ n + 1 →
+    (some_let_in key grants passed chain s).complete ≤ n + 1
 complete_some key [] passed chain s n h = h
-complete_some key (share ∷ shares) passed [] s n h = h
-complete_some key (None ∷ shares) passed (x ∷ xs) s n h = complete_some key shares (passed ++ x ∷ []) xs s n h
-complete_some key (Some units ∷ shares) passed (x ∷ xs) s n h =
-    complete_some key shares passed xs (one_let_in key x (passed ++ xs) s) n (complete_let_in x x.destination _ n h)
+complete_some key (grant ∷ grants) passed [] s n h = h
+complete_some key (None ∷ grants) passed (x ∷ xs) s n h = complete_some key grants (passed ++ x ∷ []) xs s n h
+complete_some key (Some units ∷ grants) passed (x ∷ xs) s n h =
+    complete_some key grants passed xs (one_let_in key x (passed ++ xs) s) n (complete_let_in x x.destination _ n h)
 
-complete_admitted : (key : Key) (deed : Deed) (s : Machine) (n : ℕ) → s.complete ≤ n + 1 → (admitted key deed s).complete ≤ n + 1
-complete_admitted key deed s n h = complete_some key (deed_shares deed) [] (delay_at s.delays key) s n h
+complete_admitted : (key : Key) (update : Update) (s : Machine) (n : ℕ) → s.complete ≤ n + 1 → (admitted key update s).complete ≤ n + 1
+complete_admitted key update s n h = complete_some key (update_grants update) [] (delay_at s.delays key) s n h
 
 complete_copied :
     (count : ℕ) (to : Option ℕ) (x : Transaction) (values : List (Key × ℤ)) (s : Machine) (n : ℕ) → s.complete ≤ n + 1 →

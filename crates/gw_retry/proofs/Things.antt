@@ -3,7 +3,7 @@ use denote.Enum.Bare.{same_true, sameb}
 use Rattle.std.proofs.Common.{◌≡◌, true, List, [], ◌∷◌, refl, ap, ap₂, rules}
 use Rattle.std.proofs.lemmas.Bool.{and_parts, eqb-true}
 use Rattle.std.specs.Cmp.Lexicographic.{pointwise}
-use Rattle.gw_entities.proofs.ComingLaws.{key_same}
+use Rattle.gw_entities.proofs.QueueArrivalLaws.{key_same}
 use Rattle.gw_names.specs.Keys.{key_eq}
 use Rattle.gw_meaning.specs.contracts.watched.EntityKind as kinds
 use Rattle.gw_meaning.specs.contracts.watched.WatchedClone.TheImpl as cloning

@@ -9,7 +9,7 @@ ghost use Rattle.gw_scan.specs.Courses.{Goes, IsNext, met_by};
 use crate::course::Course;
 use crate::hand_on::hand_on;
 use crate::scanning::decide_scan;
-use gw_asking::{Case, Notes, ask_block, ask_next};
+use gw_asking::{Notes, Run, ask_block, ask_next};
 use gw_expr::{Halt, Stop};
 use gw_meaning::operands::{A, B, C, D, E};
 use gw_meaning::{Block, Move, StatementId};
@@ -24,25 +24,20 @@ use gw_verbs::{
 
 // The active transaction tries the block that it goes to, or else the one after its own; where none is active, the
 // scan goes on.
-pub fn attempt<R: Course>(course: &mut R, case: Case, notes: &mut Notes) -> Result<(), Halt>
+pub fn attempt<R: Course>(course: &mut R, run: Run, notes: &mut Notes) -> Result<(), Halt>
     requires { 0 < (R.machine course.old).remaining }
-    ensures { Goes R.makes case.entry.version.now case.entry.seed
+    ensures { Goes R.makes run.entry.version.now run.entry.seed
         (scan_prog (R.machine course.old) (R.machine course.old).active)
         result course.old course.new notes.old notes.new }
 {
     let Some(x) = course.state().active() else {
-        return hand_on(
-            decide_scan(course.state(), case, notes),
-            course,
-            case,
-            notes,
-        );
+        return hand_on(decide_scan(course.state(), run, notes), course, run, notes);
     };
-    let Some(id) = ask_next(case.version, notes, x)? else {
+    let Some(id) = ask_next(run.version, notes, x)? else {
         return Err(Halt::stop(Stop::NoNextBlock));
     };
-    match ask_block(case.version, notes, id)? {
-        Some(block) => meet(course, case, notes, id, block),
+    match ask_block(run.version, notes, id)? {
+        Some(block) => meet(course, run, notes, id, block),
         None => Err(Halt::stop(Stop::NoNextBlock)),
     }
 }
@@ -50,16 +45,16 @@ pub fn attempt<R: Course>(course: &mut R, case: Case, notes: &mut Notes) -> Resu
 // It meets a block.
 fn meet<R: Course>(
     course: &mut R,
-    case: Case,
+    run: Run,
     notes: &mut Notes,
     id: StatementId,
     block: &Block,
 ) -> Result<(), Halt>
     ghost before: { Noted }
-    requires next { IsNext case.version.now case.seed (R.machine course.old)
+    requires next { IsNext run.version.now run.seed (R.machine course.old)
         (met_by (R.machine course.old) (R.machine course.old).active id block.now) }
     requires before { notes.old ≡ before }
-    ensures { Goes R.makes case.entry.version.now case.entry.seed
+    ensures { Goes R.makes run.entry.version.now run.entry.seed
         (met_by (R.machine course.old) (R.machine course.old).active id block.now)
         result course.old course.new before notes.new }
 {
@@ -68,7 +63,7 @@ fn meet<R: Course>(
         return Err(Halt::stop(Stop::NoNextBlock));
     };
     let asker = &for_one(state, x);
-    let context = Context { state, asker, case };
+    let context = Context { state, asker, run };
     let a = block.operand(A);
     let b = block.operand(B);
     let c = block.operand(C);
@@ -85,110 +80,110 @@ fn meet<R: Course>(
                 block.operand(D),
                 block.operand(E),
             );
-            hand_on_met(to, course, case, notes, id, block)
+            hand_on_met(to, course, run, notes, id, block)
         }
         BlockVerb::Advance => {
             let to = decide_advance(context, notes, id, a, b);
-            hand_on_met(to, course, case, notes, id, block)
+            hand_on_met(to, course, run, notes, id, block)
         }
         BlockVerb::Terminate => {
             let to = decide_terminate(context, notes, id, a);
-            hand_on_met(to, course, case, notes, id, block)
+            hand_on_met(to, course, run, notes, id, block)
         }
         BlockVerb::Queue => {
             let to = decide_queue(context, notes, id, a, b);
-            hand_on_met(to, course, case, notes, id, block)
+            hand_on_met(to, course, run, notes, id, block)
         }
         BlockVerb::Depart => {
             let to = decide_depart(context, notes, x, id, a, b);
-            hand_on_met(to, course, case, notes, id, block)
+            hand_on_met(to, course, run, notes, id, block)
         }
         BlockVerb::Seize => {
             let to = decide_seize(context, notes, id, a);
-            hand_on_met(to, course, case, notes, id, block)
+            hand_on_met(to, course, run, notes, id, block)
         }
         BlockVerb::Release => {
             let to = decide_release(context, notes, x, id, a);
-            hand_on_met(to, course, case, notes, id, block)
+            hand_on_met(to, course, run, notes, id, block)
         }
         BlockVerb::Enter => {
             let to = decide_enter(context, notes, id, a, b);
-            hand_on_met(to, course, case, notes, id, block)
+            hand_on_met(to, course, run, notes, id, block)
         }
         BlockVerb::Leave => {
             let to = decide_leave(context, notes, id, a, b);
-            hand_on_met(to, course, case, notes, id, block)
+            hand_on_met(to, course, run, notes, id, block)
         }
         BlockVerb::Transfer => {
-            let to = decide_transfer(case, notes, id, a, b, c);
-            hand_on_met(to, course, case, notes, id, block)
+            let to = decide_transfer(run, notes, id, a, b, c);
+            hand_on_met(to, course, run, notes, id, block)
         }
         BlockVerb::Test => {
             let to = decide_test(context, notes, id, beside, a, b, c);
-            hand_on_met(to, course, case, notes, id, block)
+            hand_on_met(to, course, run, notes, id, block)
         }
         BlockVerb::Gate => {
             let to = decide_gate(context, notes, id, beside, a, b);
-            hand_on_met(to, course, case, notes, id, block)
+            hand_on_met(to, course, run, notes, id, block)
         }
         BlockVerb::Logic => {
             let to = decide_logic(context, notes, id, beside, a);
-            hand_on_met(to, course, case, notes, id, block)
+            hand_on_met(to, course, run, notes, id, block)
         }
         BlockVerb::Savevalue => {
             let to = decide_savevalue(context, notes, id, beside, a, b);
-            hand_on_met(to, course, case, notes, id, block)
+            hand_on_met(to, course, run, notes, id, block)
         }
         BlockVerb::Tabulate => {
             let to = decide_tabulate(context, notes, id, a);
-            hand_on_met(to, course, case, notes, id, block)
+            hand_on_met(to, course, run, notes, id, block)
         }
         BlockVerb::Split => {
             let to = decide_split(context, notes, id, a, b);
-            hand_on_met(to, course, case, notes, id, block)
+            hand_on_met(to, course, run, notes, id, block)
         }
         BlockVerb::Link => {
             let to = decide_link(context, notes, id, a, b);
-            hand_on_met(to, course, case, notes, id, block)
+            hand_on_met(to, course, run, notes, id, block)
         }
         BlockVerb::Unlink => {
             let to = decide_unlink(context, notes, id, a, b, c);
-            hand_on_met(to, course, case, notes, id, block)
+            hand_on_met(to, course, run, notes, id, block)
         }
         BlockVerb::Mark => {
-            let to = mark(case, notes, id);
-            hand_on_met(to, course, case, notes, id, block)
+            let to = mark(run, notes, id);
+            hand_on_met(to, course, run, notes, id, block)
         }
         BlockVerb::Priority => {
             let to = decide_priority(context, notes, id, a);
-            hand_on_met(to, course, case, notes, id, block)
+            hand_on_met(to, course, run, notes, id, block)
         }
         BlockVerb::Buffer => {
-            let to = buffer(case, notes, id);
-            hand_on_met(to, course, case, notes, id, block)
+            let to = buffer(run, notes, id);
+            hand_on_met(to, course, run, notes, id, block)
         }
         BlockVerb::Assign => {
             let to = decide_assign(context, notes, id, beside, a, b);
-            hand_on_met(to, course, case, notes, id, block)
+            hand_on_met(to, course, run, notes, id, block)
         }
         BlockVerb::Loop => {
             let to = decide_loop(context, notes, id, a, b);
-            hand_on_met(to, course, case, notes, id, block)
+            hand_on_met(to, course, run, notes, id, block)
         }
     }
 }
 
 // A MARK and a BUFFER neither ask nor draw.
 #[inline(always)]
-fn mark(case: Case, notes: &Notes, id: StatementId) -> Result<Move, Halt>
-    ensures { Decides case.entry.version.now case.entry.seed (mark_prog id) result notes.now notes.now }
+fn mark(run: Run, notes: &Notes, id: StatementId) -> Result<Move, Halt>
+    ensures { Decides run.entry.version.now run.entry.seed (mark_prog id) result notes.now notes.now }
 {
     decide_mark(id)
 }
 
 #[inline(always)]
-fn buffer(case: Case, notes: &Notes, id: StatementId) -> Result<Move, Halt>
-    ensures { Decides case.entry.version.now case.entry.seed (buffer_prog id) result notes.now notes.now }
+fn buffer(run: Run, notes: &Notes, id: StatementId) -> Result<Move, Halt>
+    ensures { Decides run.entry.version.now run.entry.seed (buffer_prog id) result notes.now notes.now }
 {
     decide_buffer(id)
 }
@@ -198,19 +193,19 @@ fn buffer(case: Case, notes: &Notes, id: StatementId) -> Result<Move, Halt>
 fn hand_on_met<R: Course>(
     decided: Result<Move, Halt>,
     course: &mut R,
-    case: Case,
+    run: Run,
     notes: &Notes,
     id: StatementId,
     block: &Block,
 ) -> Result<(), Halt>
     ghost before: { Noted }
-    requires next { IsNext case.version.now case.seed (R.machine course.old)
+    requires next { IsNext run.version.now run.seed (R.machine course.old)
         (met_by (R.machine course.old) (R.machine course.old).active id block.now) }
-    requires met { Decides case.version.now case.seed
+    requires met { Decides run.version.now run.seed
         (met_by (R.machine course.old) (R.machine course.old).active id block.now) decided before notes.now }
-    ensures { Goes R.makes case.entry.version.now case.entry.seed
+    ensures { Goes R.makes run.entry.version.now run.entry.seed
         (met_by (R.machine course.old) (R.machine course.old).active id block.now)
         result course.old course.new before notes.now }
 {
-    hand_on(decided, course, case, notes)
+    hand_on(decided, course, run, notes)
 }

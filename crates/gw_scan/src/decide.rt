@@ -7,23 +7,23 @@ use crate::attempt::attempt;
 use crate::commands::decide_command;
 use crate::course::Course;
 use crate::hand_on::hand_on;
-use gw_asking::{Case, Notes};
+use gw_asking::{Notes, Run};
 use gw_expr::Halt;
 
 // The next move is taken; or it is told why none follows.
 #[inline(always)]
-pub fn go_on<C: Course>(course: &mut C, case: Case, notes: &mut Notes) -> Result<(), Halt>
-    ensures { Goes C.makes case.entry.version.now case.entry.seed
+pub fn go_on<C: Course>(course: &mut C, run: Run, notes: &mut Notes) -> Result<(), Halt>
+    ensures { Goes C.makes run.entry.version.now run.entry.seed
         (move_prog (C.machine course.old) (C.machine course.old).remaining)
         result course.old course.new notes.old notes.new }
 {
     if course.state().remaining() == 0 {
         return hand_on(
-            decide_command(course.state(), case, notes),
+            decide_command(course.state(), run, notes),
             course,
-            case,
+            run,
             notes,
         );
     }
-    attempt(course, case, notes)
+    attempt(course, run, notes)
 }

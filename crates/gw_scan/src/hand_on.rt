@@ -2,7 +2,7 @@
 ghost use Rattle.gw_scan.specs.Courses.{CanBeMade, Taken};
 
 use crate::course::Course;
-use gw_asking::{Case, Notes};
+use gw_asking::{Notes, Run};
 use gw_expr::Halt;
 use gw_meaning::Move;
 
@@ -11,13 +11,13 @@ use gw_meaning::Move;
 pub fn hand_on<C: Course>(
     decided: Result<Move, Halt>,
     course: &mut C,
-    case: Case,
+    run: Run,
     notes: &Notes,
 ) -> Result<(), Halt>
     requires { CanBeMade (C.machine course.old) decided }
     ensures { Taken C.makes decided notes.now.streams result course.old course.new }
 {
     let to = decided?;
-    course.take(case.alloc, to, notes.streams())?;
+    course.take(run.alloc, to, notes.streams())?;
     Ok(())
 }

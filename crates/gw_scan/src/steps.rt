@@ -7,7 +7,7 @@ ghost use Rattle.gw_asking.specs.Noted.{Forgets};
 use crate::course::Asked;
 use crate::decide::go_on;
 use crate::tally::Tally;
-use gw_asking::{Case, Notes};
+use gw_asking::{Notes, Run};
 use gw_expr::{End, Halt};
 use gw_model::Version;
 use gw_state::State;
@@ -41,12 +41,12 @@ pub fn step(
     ensures err { OnErr result ((state.new ≡ state.old) × (tally.new ≡ tally.old)) }
     ensures forgets { OnErr result (Forgets notes.old.step notes.old.streams notes.old notes.new) }
 {
-    let case = Case {
+    let run = Run {
         alloc,
         version,
         seed,
     };
-    match act(state, case, notes) {
+    match act(state, run, notes) {
         Ok(()) => {
             tally.raise();
             Ok(Turn::Moved)
@@ -71,11 +71,11 @@ fn halted(halt: Halt, state: &State, notes: &mut Notes) -> Result<Turn, AllocErr
 
 // Makes the next move; or says why none follows, and then nothing changes.
 #[inline(always)]
-fn act(state: &mut State, case: Case, notes: &mut Notes) -> Result<(), Halt>
-    ensures { Acts case.entry.version.now case.entry.seed (move_prog state.old state.old.remaining)
+fn act(state: &mut State, run: Run, notes: &mut Notes) -> Result<(), Halt>
+    ensures { Acts run.entry.version.now run.entry.seed (move_prog state.old state.old.remaining)
         result state.old state.new notes.old notes.new }
 {
-    go_on(state, case, notes)
+    go_on(state, run, notes)
 }
 
 /// The end that a step would come to here, or `None` where the run goes on: no move is made.
@@ -87,14 +87,14 @@ pub fn end_at(
 ) -> Result<Option<End>, AllocError>
     ensures { IfOk result (EndsAs (step version.now seed state.now)) }
 {
-    let case = Case {
+    let run = Run {
         alloc,
         version,
         seed,
     };
     let mut notes = Notes::new(alloc, state.streams());
     let mut asked = Asked { state };
-    let decided = go_on(&mut asked, case, &mut notes);
+    let decided = go_on(&mut asked, run, &mut notes);
     drop(notes);
     match decided {
         Ok(()) => Ok(None),

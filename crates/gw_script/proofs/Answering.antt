@@ -16,7 +16,7 @@ use Rattle.gw_script.specs.declared.fault.Fault.{Fault}
 use Rattle.gw_script.specs.declared.fault.Fault.TheVariants as faults
 use Rattle.gw_script.specs.Answers.{ReportsAll, refused, numbers_of}
 use Rattle.gw_script.specs.Changes.{refuses, refusal_of}
-use Rattle.gw_script.specs.Replying.{Replies, Untold, untold_of}
+use Rattle.gw_script.specs.Replying.{Replies, Fallback, fallback_of}
 use Rattle.gw_script.specs.Turns.{BreaksOff, BreaksBy, BreaksRefused, not_begun, begun}
 
 -- how an edit is told to be out of memory
@@ -55,10 +55,10 @@ write_is_not_memory : (fault : Fault) → fault ≡ faults.Write → fault ≡ f
 write_is_not_memory fault failed memory = absurd (let both : faults.Write ≡ faults.Memory = sym failed ∙ memory in cc)
 
 -- writing an answer broke off
-pub broken_sending : {D K : Type 0} (wrote : K → List ℕ → K → Type 0) (writes_of : K → ℕ) (A : List ℕ → D → Type 0) (untold : Option (List ℕ)) (before : D)
+pub broken_sending : {D K : Type 0} (wrote : K → List ℕ → K → Type 0) (writes_of : K → ℕ) (A : List ℕ → D → Type 0) (fallback : Option (List ℕ)) (before : D)
     (old new : K) (text : List ℕ) (after : D) (fault : Fault) → A text after → WritesPart wrote old text new → fault ≡ faults.Write →
-    writes_of new ≡ one_more (writes_of old) → BreaksOff wrote writes_of A untold before old new after fault
-broken_sending wrote writes_of A untold before old new text after fault is part failed counted =
+    writes_of new ≡ one_more (writes_of old) → BreaksOff wrote writes_of A fallback before old new after fault
+broken_sending wrote writes_of A fallback before old new text after fault is part failed counted =
     let T : List ℕ → Type 0 = λ x. A x after in
     let C : Fault → Type 0 = λ f. BreaksBy f (writes_of old) (writes_of new) in
     record {
@@ -71,22 +71,22 @@ broken_sending wrote writes_of A untold before old new text after fault is part 
     }
 
 -- what was answered where a growth was refused is an answer
-pub untold_replies : {D : Type 0} (version : D → Listing) (does : D → Event → Reply → D → Type 0)
+pub fallback_replies : {D : Type 0} (version : D → Listing) (does : D → Event → Reply → D → Type 0)
     (works : D → ℕ → ℕ → Option (Option ℕ) → D → Type 0) (d after : D) (n : ℕ) (request : Request) (text : List ℕ) →
-    untold_of request ≡ Some text → Untold version does works d n request after → Replies version does works d n request text after
-untold_replies version does works d after n request text is untold = rw is at untold
+    fallback_of request ≡ Some text → Fallback version does works d n request after → Replies version does works d n request text after
+fallback_replies version does works d after n request text is fallback = rw is at fallback
 
 -- an answer broke off where a growth was refused for telling it
 pub broken_refused : {D K : Type 0} (wrote : K → List ℕ → K → Type 0) (writes_of : K → ℕ) (wrote_none : (a : K) → wrote a [] a) (version : D → Listing)
     (does : D → Event → Reply → D → Type 0) (works : D → ℕ → ℕ → Option (Option ℕ) → D → Type 0)
     (in_vain : (d : D) (event : Event) → is_of_desk event ≡ true → does d event (wants_memory event) d)
     (worked_in_vain : (d : D) (rep steps : ℕ) → works d rep steps None d) (d after : D) (n : ℕ) (request : Request)
-    (old new : K) (fault : Fault) → Untold version does works d n request after → BreaksRefused wrote writes_of (untold_of request) old new fault →
-    BreaksOff wrote writes_of (Replies version does works d n request) (untold_of request) d old new after fault
-broken_refused {D} {K} wrote writes_of wrote_none version does works in_vain worked_in_vain d after n request old new fault untold (not_begun other memory same) =
+    (old new : K) (fault : Fault) → Fallback version does works d n request after → BreaksRefused wrote writes_of (fallback_of request) old new fault →
+    BreaksOff wrote writes_of (Replies version does works d n request) (fallback_of request) d old new after fault
+broken_refused {D} {K} wrote writes_of wrote_none version does works in_vain worked_in_vain d after n request old new fault fallback (not_begun other memory same) =
     let W : K → Type 0 = λ k. wrote old [] k in
     let C : Fault → Type 0 = λ f. BreaksBy f (writes_of old) (writes_of new) in
-    let still : after ≡ d = rw other at untold in
+    let still : after ≡ d = rw other at fallback in
     let some = replies_some version does works in_vain worked_in_vain d n request in
     let R : D → Type 0 = λ x. Replies version does works d n request some.0 x in
     record {
@@ -97,12 +97,12 @@ broken_refused {D} {K} wrote writes_of wrote_none version does works in_vain wor
       cause = subst C (sym memory) (ap writes_of same);
       silent = λ again. record { unanswered = other; unwritten = refl; unchanged = still };
     }
-broken_refused {D} {K} wrote writes_of wrote_none version does works in_vain worked_in_vain d after n request old new fault untold (begun front left asks written failed counted) =
+broken_refused {D} {K} wrote writes_of wrote_none version does works in_vain worked_in_vain d after n request old new fault fallback (begun front left asks written failed counted) =
     let C : Fault → Type 0 = λ f. BreaksBy f (writes_of old) (writes_of new) in
     record {
       front = front;
       left = left;
-      answers = untold_replies version does works d after n request (front ++ left) asks untold;
+      answers = fallback_replies version does works d after n request (front ++ left) asks fallback;
       written = written;
       cause = subst C (sym failed) counted;
       silent = λ memory. absurd (write_is_not_memory fault failed memory);
@@ -110,17 +110,17 @@ broken_refused {D} {K} wrote writes_of wrote_none version does works in_vain wor
 
 -- likewise, where the text was the whole answer
 pub broken_if : {A D K : Type 0} (r : Result A Fault) (wrote : K → List ℕ → K → Type 0) (writes_of : K → ℕ) (Says : List ℕ → D → Type 0)
-    (untold : Option (List ℕ)) (before : D) (old new : K) (text : List ℕ) (after : D) → Says text after → IfErr r (λ f. f ≡ faults.Write) →
+    (fallback : Option (List ℕ)) (before : D) (old new : K) (text : List ℕ) (after : D) → Says text after → IfErr r (λ f. f ≡ faults.Write) →
     OnErr r (WritesPart wrote old text new) → OnErr r (writes_of new ≡ one_more (writes_of old)) →
-    IfErr r (λ f. BreaksOff wrote writes_of Says untold before old new after f)
-broken_if (Ok x) wrote writes_of Says untold before old new text after is failed part counted = failed
-broken_if (Err f) wrote writes_of Says untold before old new text after is failed part counted =
-    broken_sending wrote writes_of Says untold before old new text after f is part failed counted
+    IfErr r (λ f. BreaksOff wrote writes_of Says fallback before old new after f)
+broken_if (Ok x) wrote writes_of Says fallback before old new text after is failed part counted = failed
+broken_if (Err f) wrote writes_of Says fallback before old new text after is failed part counted =
+    broken_sending wrote writes_of Says fallback before old new text after f is part failed counted
 
 -- saying that a growth was refused broke off, where that may be said
-pub refused_if : {A K : Type 0} (r : Result A Fault) (wrote : K → List ℕ → K → Type 0) (writes_of : K → ℕ) (untold : Option (List ℕ)) (old new : K)
-    (text : List ℕ) → untold ≡ Some text → IfErr r (λ f. f ≡ faults.Write) → OnErr r (WritesPart wrote old text new) →
-    OnErr r (writes_of new ≡ one_more (writes_of old)) → IfErr r (λ f. BreaksRefused wrote writes_of untold old new f)
-refused_if (Ok x) wrote writes_of untold old new text is failed part counted = failed
-refused_if (Err f) wrote writes_of untold old new text is failed part counted =
+pub refused_if : {A K : Type 0} (r : Result A Fault) (wrote : K → List ℕ → K → Type 0) (writes_of : K → ℕ) (fallback : Option (List ℕ)) (old new : K)
+    (text : List ℕ) → fallback ≡ Some text → IfErr r (λ f. f ≡ faults.Write) → OnErr r (WritesPart wrote old text new) →
+    OnErr r (writes_of new ≡ one_more (writes_of old)) → IfErr r (λ f. BreaksRefused wrote writes_of fallback old new f)
+refused_if (Ok x) wrote writes_of fallback old new text is failed part counted = failed
+refused_if (Err f) wrote writes_of fallback old new text is failed part counted =
     begun part.front part.left (is ∙ ap (λ t. Some t) part.parts) part.written failed counted

@@ -110,7 +110,7 @@ module _ {D : Type 0} (version : D → Listing) (does right : D → Event → Re
   unanswered_right : (d d' : D) (input output : List ℕ) → Holds d → IsUnanswered (Answers version does works) d input output d' →
       IsUnanswered (Answers version right works) d input output d'
   unanswered_right d d' input output holds h =
-      record { earlier = h.earlier; line = h.line; last = h.last; whole = h.whole; untold = h.untold; says = says_right h.says holds }
+      record { earlier = h.earlier; line = h.line; last = h.last; whole = h.whole; fallback = h.fallback; says = says_right h.says holds }
 
   module _ {S K : Type 0} (took : S → List ℕ → S → Type 0) (ended : S → Type 0) (reads : S → ℕ) (wrote : K → List ℕ → K → Type 0) (writes : K → ℕ)
       (d d' : D) (source source' : S) (sink sink' : K) (holds : Holds d) where
@@ -181,7 +181,7 @@ worked_read b c rep steps (Some count) is works = record {
 opens_read : (model : List ℕ) (o : Options) (b : Book) → IsBook b → Opens model o b → IsRead b
 opens_read model o b desk opens = record {
   desk = desk;
-  spelled = subst (λ (a : Book). AreSpelled a.version.lines) (sym opens.is_book) (opened_is_spelled model o opens.version opens.opens);
+  spelled = subst (λ (a : Book). AreSpelled a.version.lines) (sym opens.lemma_is_book) (opened_is_spelled model o opens.version opens.opens);
 }
 
 -- a session over the desk that a model opens

@@ -10,7 +10,7 @@ use Rattle.gw_script.specs.declared.fault.Over.{Over}
 use Rattle.gw_script.specs.declared.fault.Over.TheVariants as overs
 use Rattle.gw_script.specs.declared.fault.Fault.{Fault}
 use Rattle.gw_script.specs.declared.fault.Fault.TheVariants as faults
-use Rattle.gw_script.specs.Replying.{is_quit, untold_of}
+use Rattle.gw_script.specs.Replying.{is_quit, fallback_of}
 use Rattle.gw_script.specs.Sessions.{Says, nothing, line, last, quit, last_quit, IsReadWhole, with_its_line_feed, at_the_end, IsOverAt, Serves, Stops, StopsBy, AreFed, IsLastLine, IsUnanswered, in_reading, in_answering}
 use Rattle.gw_script.specs.Turns.{Writes, BreaksOff, BreaksBy, IsSilent, stopped_by, over_if}
 
@@ -128,7 +128,7 @@ module _ {D S K : Type 0} (answers : D → ℕ → List ℕ → List ℕ → D �
   -- a line to which no answer says that it is out of memory
   unanswered_at : {b d after : D} {n left : ℕ} {source s : S} {sink k : K} (before : Turned answers took wrote b d n left source s sink k)
       (bytes text : List ℕ) → ((earlier : List ℕ) → IsLastLine earlier text (earlier ++ bytes)) → (front : List ℕ) →
-      IsSilent (untold_of (request_of text)) front d after → IsUnanswered answers b (before.input ++ bytes) (before.output ++ front) after
+      IsSilent (fallback_of (request_of text)) front d after → IsUnanswered answers b (before.input ++ bytes) (before.output ++ front) after
   unanswered_at {b} {d} {after} {n} before bytes text last_line front silent =
       let I : List ℕ → Type 0 = λ i. Says answers b 1 i (before.output ++ []) overs.InputEnd d in
       let O : List ℕ → Type 0 = λ o. Says answers b 1 before.input (before.output ++ o) overs.InputEnd d in
@@ -139,7 +139,7 @@ module _ {D S K : Type 0} (answers : D → ℕ → List ℕ → List ℕ → D �
         line = text;
         last = last_line before.input;
         whole = before.fed;
-        untold = silent.unanswered;
+        fallback = silent.unanswered;
         says = subst A (sym silent.unchanged) (subst O (sym silent.unwritten) before_it);
       }
 
@@ -190,7 +190,7 @@ module _ {D S K : Type 0} (answers : D → ℕ → List ℕ → List ℕ → D �
     pub stops_answering : (ended : S → Type 0) {k' : K} {after : D} (bytes text : List ℕ) (idle : ℕ) → IsReadWhole (ended s') bytes idle →
         ((earlier : List ℕ) → IsLastLine earlier text (earlier ++ bytes)) → (over : Over) (fault : Fault) →
         reads_of s' ≡ reads_of source → writes_of k ≡ writes_of sink → length bytes + idle ≤ left → took s bytes s' →
-        (broken : BreaksOff wrote writes_of (answers d n text) (untold_of (request_of text)) d k k' after fault) →
+        (broken : BreaksOff wrote writes_of (answers d n text) (fallback_of (request_of text)) d k k' after fault) →
         Says answers d n bytes (broken.front ++ broken.left) over after →
         Stops answers took ended reads_of wrote writes_of b source s' sink k' after fault
     stops_answering ended {k'} {after} bytes text idle whole last_line over fault read_well same fits taken broken says =

@@ -57,22 +57,22 @@ is_quit (requests.Bad reason) = false
 
 -- what a line may be answered where a growth is refused for telling its answer: a query and an edit may, the rest may
 -- not
-abbrev pub untold_of : Request → Option (List ℕ)
-untold_of requests.Nothing = None
-untold_of (requests.Edit e) = Some (codes "refused E7\n")
-untold_of (requests.Report rep k) = Some (codes "memory\n")
-untold_of (requests.Peek rep k) = Some (codes "memory\n")
-untold_of (requests.All k) = Some (codes "memory\n")
-untold_of (requests.Work rep steps) = Some (codes "memory\n")
-untold_of requests.List = Some (codes "memory\n")
-untold_of requests.Quit = None
-untold_of (requests.Bad reason) = None
+abbrev pub fallback_of : Request → Option (List ℕ)
+fallback_of requests.Nothing = None
+fallback_of (requests.Edit e) = Some (codes "refused E7\n")
+fallback_of (requests.Report rep k) = Some (codes "memory\n")
+fallback_of (requests.Peek rep k) = Some (codes "memory\n")
+fallback_of (requests.All k) = Some (codes "memory\n")
+fallback_of (requests.Work rep steps) = Some (codes "memory\n")
+fallback_of requests.List = Some (codes "memory\n")
+fallback_of requests.Quit = None
+fallback_of (requests.Bad reason) = None
 
 -- a growth was refused for telling an answer: that may be answered, or the keeper is as it was
-abbrev pub Untold : {D : Type 0} → (D → Listing) → (D → Event → Reply → D → Type 0) →
+abbrev pub Fallback : {D : Type 0} → (D → Listing) → (D → Event → Reply → D → Type 0) →
     (D → ℕ → ℕ → Option (Option ℕ) → D → Type 0) → D → ℕ → Request → D → Type 0
-Untold version does works d n request d' =
-    MatchOption (untold_of request) (d' ≡ d) (λ text. Replies version does works d n request text d')
+Fallback version does works d n request d' =
+    MatchOption (fallback_of request) (d' ≡ d) (λ text. Replies version does works d n request text d')
 
 -- what may be answered to the n-th line, and what it leaves: an edit for whose reading a growth was refused is refused
 pub data Answers {D : Type 0} (version : D → Listing) (does : D → Event → Reply → D → Type 0)

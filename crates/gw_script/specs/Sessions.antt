@@ -9,7 +9,7 @@ use Rattle.gw_script.specs.declared.fault.Over.{Over}
 use Rattle.gw_script.specs.declared.fault.Over.TheVariants as overs
 use Rattle.gw_script.specs.declared.fault.Fault.{Fault}
 use Rattle.gw_script.specs.declared.fault.Fault.TheVariants as faults
-use Rattle.gw_script.specs.Replying.{is_quit, untold_of}
+use Rattle.gw_script.specs.Replying.{is_quit, fallback_of}
 use Rattle.gw_script.specs.Turns.{stopped_by}
 
 -- To this input from line n on, this is written, so the session ends, and this it leaves of the keeper. Each line is
@@ -94,7 +94,7 @@ pub record IsUnanswered {D : Type 0} (answers : D → ℕ → List ℕ → List 
   pub line : List ℕ
   pub last : IsLastLine earlier line input
   pub whole : (earlier ≡ []) ⊎ AreFed earlier
-  pub untold : untold_of (request_of line) ≡ None
+  pub fallback : fallback_of (request_of line) ≡ None
   pub says : Says answers d 1 earlier output overs.InputEnd d'
 
 -- all that is said to the whole lines was written, each line had its line feed, and none ended the session: it went on

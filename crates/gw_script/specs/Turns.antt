@@ -32,28 +32,28 @@ BreaksBy faults.ReadLimit writes writes' = ⊥
 BreaksBy faults.Memory writes writes' = writes' ≡ writes
 
 -- out of memory at a line: no answer says so to it, nothing was written, and the keeper is as it was
-pub record IsSilent {D : Type 0} (untold : Option (List ℕ)) (front : List ℕ) (before after : D) : Type 0 where
-  pub unanswered : untold ≡ None
+pub record IsSilent {D : Type 0} (fallback : Option (List ℕ)) (front : List ℕ) (before after : D) : Type 0 where
+  pub unanswered : fallback ≡ None
   pub unwritten : front ≡ []
   pub unchanged : after ≡ before
 
 -- a front part of an answer was written: bytes that may be answered, which leave the keeper so, begin with it. Where it
 -- broke off out of memory, that is before anything was written of a line to which no answer says so
 pub record BreaksOff {D K : Type 0} (wrote : K → List ℕ → K → Type 0) (writes : K → ℕ) (A : List ℕ → D → Type 0)
-    (untold : Option (List ℕ)) (before : D) (old new : K) (after : D) (fault : Fault) : Type 0 where
+    (fallback : Option (List ℕ)) (before : D) (old new : K) (after : D) (fault : Fault) : Type 0 where
   pub front : List ℕ
   pub left : List ℕ
   pub answers : A (front ++ left) after
   pub written : wrote old front new
   pub cause : BreaksBy fault (writes old) (writes new)
-  pub silent : fault ≡ faults.Memory → IsSilent untold front before after
+  pub silent : fault ≡ faults.Memory → IsSilent fallback front before after
 
 -- saying that a growth was refused broke off; where a line has no such answer, nothing was written
-pub data BreaksRefused {K : Type 0} (wrote : K → List ℕ → K → Type 0) (writes : K → ℕ) (untold : Option (List ℕ))
+pub data BreaksRefused {K : Type 0} (wrote : K → List ℕ → K → Type 0) (writes : K → ℕ) (fallback : Option (List ℕ))
     (old new : K) (fault : Fault) : Type 0 where
-  not_begun : untold ≡ None → fault ≡ faults.Memory → new ≡ old → BreaksRefused wrote writes untold old new fault
-  begun : (front left : List ℕ) → untold ≡ Some (front ++ left) → wrote old front new → fault ≡ faults.Write →
-      writes new ≡ one_more (writes old) → BreaksRefused wrote writes untold old new fault
+  not_begun : fallback ≡ None → fault ≡ faults.Memory → new ≡ old → BreaksRefused wrote writes fallback old new fault
+  begun : (front left : List ℕ) → fallback ≡ Some (front ++ left) → wrote old front new → fault ≡ faults.Write →
+      writes new ≡ one_more (writes old) → BreaksRefused wrote writes fallback old new fault
 
 -- how a session ends after its last line
 abbrev pub over_if : Bool → Over

@@ -1,6 +1,6 @@
 // What a script line is answered.
 ghost use Rattle.std.specs.Prelude.{◌≡◌, ◌++◌, codes, decimal, option_copied, IfOk, OnErr};
-ghost use Rattle.gw_script.specs.Replying.{Replies, Untold, word_of, is_quit, untold_of};
+ghost use Rattle.gw_script.specs.Replying.{Replies, Fallback, word_of, is_quit, fallback_of};
 
 use crate::edits::edit;
 use crate::listing::list;
@@ -11,7 +11,7 @@ use gw_nums::put_decimal;
 use gw_request::{Reason, Request};
 use std::alloc::{AllocError, Global};
 
-/// The answer to the n-th line. Where a growth was refused for telling it, [`untold`] may be answered.
+/// The answer to the n-th line. Where a growth was refused for telling it, [`fallback`] may be answered.
 pub fn answer<D: Keeper>(
     alloc: Global,
     keeper: &mut D,
@@ -19,7 +19,7 @@ pub fn answer<D: Keeper>(
     request: Request,
 ) -> Result<Vec<u8>, AllocError>
     ensures ok { IfOk result (λ v. Replies D.version D.does D.works keeper.old n request v.items keeper.new) }
-    ensures err { OnErr result (Untold D.version D.does D.works keeper.old n request keeper.new) }
+    ensures err { OnErr result (Fallback D.version D.does D.works keeper.old n request keeper.new) }
 {
     match request {
         Request::Nothing => Ok(Vec::new(alloc)),
@@ -63,8 +63,8 @@ pub(crate) fn is_quit(request: &Request) -> bool
 }
 
 /// What a line may be answered where a growth is refused for telling its answer, if it may.
-pub fn untold(request: &Request) -> Option<&'static [u8]>
-    ensures { option_copied result ≡ untold_of request.now }
+pub fn fallback(request: &Request) -> Option<&'static [u8]>
+    ensures { option_copied result ≡ fallback_of request.now }
 {
     match request {
         Request::Edit(_) => Some(b"refused E7\n"),

@@ -4,13 +4,13 @@ ghost use Rattle.gw_io.specs.Failures.{one_more, WritesPart};
 ghost use Rattle.gw_desk.specs.Book.{Book};
 ghost use Rattle.gw_request.specs.Requests.{request_of};
 ghost use Rattle.gw_script.specs.Opening.{Opens, Refuses};
-ghost use Rattle.gw_script.specs.Replying.{Answers, DeskAnswers, Replies, is_quit, untold_of};
+ghost use Rattle.gw_script.specs.Replying.{Answers, DeskAnswers, Replies, is_quit, fallback_of};
 ghost use Rattle.gw_script.specs.Sessions.{Serves, Stops};
 ghost use Rattle.gw_script.specs.Turns.{Writes, BreaksOff, BreaksRefused, over_if};
 
 use crate::fault::{Fault, Over};
 use crate::opening::{Options, open};
-use crate::reply::{answer, is_quit, untold};
+use crate::reply::{answer, fallback, is_quit};
 use gw_desk::Keeper;
 use gw_io::{Budget, Line, Sink, Source, read_line, without_cr, write_all};
 use gw_request::{Request, request_of};
@@ -100,7 +100,7 @@ fn reply<D: Keeper, K: Sink>(
         sink.old sink.new keeper.new) }
     ensures same { OnOk result (K.failures sink.new ≡ K.failures sink.old) }
     ensures err { IfErr result (λ f. BreaksOff K.wrote K.failures (Answers D.version D.does D.works keeper.old n line.now)
-        (untold_of (request_of line.now)) keeper.old sink.old sink.new keeper.new f) }
+        (fallback_of (request_of line.now)) keeper.old sink.old sink.new keeper.new f) }
 {
     match request_of(alloc, line) {
         Ok(request) => fulfil(alloc, keeper, n, request, sink),
@@ -135,26 +135,26 @@ fn fulfil<D: Keeper, K: Sink>(
         sink.old sink.new keeper.new) }
     ensures same { OnOk result (K.failures sink.new ≡ K.failures sink.old) }
     ensures err { IfErr result (λ f. BreaksOff K.wrote K.failures (Replies D.version D.does D.works keeper.old n request)
-        (untold_of request) keeper.old sink.old sink.new keeper.new f) }
+        (fallback_of request) keeper.old sink.old sink.new keeper.new f) }
 {
     let quit = is_quit(&request);
-    let untold = untold(&request);
+    let fallback = fallback(&request);
     match answer(alloc, keeper, n, request) {
         Ok(text) => send(sink, &text)?,
-        Err(_) => send_refused(sink, untold)?,
+        Err(_) => send_refused(sink, fallback)?,
     }
     Ok(quit)
 }
 
 // Says that a growth was refused, where a line may be answered so; at any other the session ends.
-fn send_refused<K: Sink>(sink: &mut K, untold: Option<&[u8]>) -> Result<(), Fault>
-    ensures ok { OnOk result ((text : List ℕ) × (option_copied untold.entry ≡ Some text) ×
+fn send_refused<K: Sink>(sink: &mut K, fallback: Option<&[u8]>) -> Result<(), Fault>
+    ensures ok { OnOk result ((text : List ℕ) × (option_copied fallback.entry ≡ Some text) ×
         K.wrote sink.old text sink.new) }
     ensures same { OnOk result (K.failures sink.new ≡ K.failures sink.old) }
     ensures err { IfErr result (λ f.
-        BreaksRefused K.wrote K.failures (option_copied untold.entry) sink.old sink.new f) }
+        BreaksRefused K.wrote K.failures (option_copied fallback.entry) sink.old sink.new f) }
 {
-    match untold {
+    match fallback {
         Some(text) => send(sink, text),
         None => Err(Fault::Memory),
     }

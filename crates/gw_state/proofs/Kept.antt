@@ -14,7 +14,7 @@ use Rattle.gw_state.specs.Making.{HasEntered}
 use Rattle.gw_state.specs.States.{machine_of}
 use Rattle.gw_state.specs.Waking.{WakesAs}
 use Rattle.gw_meaning.specs.Machine.{Machine, delay_at, user_chain_at}
-use Rattle.gw_meaning.specs.Changes.{fated, let_in, one_let_in, some_let_in, deed_shares, all_copied, one_copied, some_unlinked, one_unlinked, changed, entering, woken, crossing, written_by, written_in, written_where, with_active}
+use Rattle.gw_meaning.specs.Changes.{fated, let_in, one_let_in, some_let_in, update_grants, all_copied, one_copied, some_unlinked, one_unlinked, changed, entering, woken, crossing, written_by, written_in, written_where, with_active}
 
 -- what the chains and the counts do not tell: who waits for a change of something, and the parameters
 abbrev Aside : Type 0
@@ -28,13 +28,13 @@ let_in_keeps x None s = refl
 let_in_keeps x (Some id) s = refl
 
 some_let_in_keeps :
-    (key : Key) (shares : List (Option ℕ)) (passed chain : List Transaction) (s : Machine) →
-    aside (some_let_in key shares passed chain s) ≡ aside s
+    (key : Key) (grants : List (Option ℕ)) (passed chain : List Transaction) (s : Machine) →
+    aside (some_let_in key grants passed chain s) ≡ aside s
 some_let_in_keeps key [] passed chain s = refl
-some_let_in_keeps key (share ∷ shares) passed [] s = refl
-some_let_in_keeps key (None ∷ shares) passed (x ∷ xs) s = some_let_in_keeps key shares (passed ++ x ∷ []) xs s
-some_let_in_keeps key (Some units ∷ shares) passed (x ∷ xs) s =
-    some_let_in_keeps key shares passed xs (one_let_in key x (passed ++ xs) s) ∙ let_in_keeps x x.destination _
+some_let_in_keeps key (grant ∷ grants) passed [] s = refl
+some_let_in_keeps key (None ∷ grants) passed (x ∷ xs) s = some_let_in_keeps key grants (passed ++ x ∷ []) xs s
+some_let_in_keeps key (Some units ∷ grants) passed (x ∷ xs) s =
+    some_let_in_keeps key grants passed xs (one_let_in key x (passed ++ xs) s) ∙ let_in_keeps x x.destination _
 
 some_unlinked_keep : (count : ℕ) (key : Key) (to : Option ℕ) (chain : List Transaction) (s : Machine) →
     aside (some_unlinked count key to chain s) ≡ aside s
@@ -61,7 +61,7 @@ changed_keeps (changes.Split count to) s = copied_keeps count to s.active s
 changed_keeps (changes.Unlink key count to) s =
     ap (λ (a : Aside). a.0) (some_unlinked_keep count key to (user_chain_at s.linked key).members s)
 changed_keeps (changes.Entity change) s =
-    ap (λ (a : Aside). a.0) (some_let_in_keeps change.0 (deed_shares change.1) [] (delay_at s.delays change.0) s)
+    ap (λ (a : Aside). a.0) (some_let_in_keeps change.0 (update_grants change.1) [] (delay_at s.delays change.0) s)
 
 fated_keeps : (fate : Fate) (x : Transaction) (s : Machine) → (fated fate x s).retry ≡ s.retry
 fated_keeps fates.Active x s = refl

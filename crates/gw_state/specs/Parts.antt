@@ -2,7 +2,7 @@
 use Rattle.std.specs.Prelude.{ℕ, ℤ, Bool, List}
 use Rattle.gw_names.specs.declared.key.Key.{Key}
 use Rattle.gw_entities.specs.Records.{Ownership, Line, Store}
-use Rattle.gw_entities.specs.Comings.{Arrivals}
+use Rattle.gw_entities.specs.QueueArrivals.{Arrivals}
 use Rattle.gw_meaning.specs.Entities.{Entities}
 
 -- the clocks
@@ -22,7 +22,7 @@ pub record Standing : Type 0 where
   -- whether the GENERATEs have their first transactions
   pub primed : Bool
 
--- the entities, with the comings that there is room for
+-- the entities, with the arrivals at queues that there is room for
 pub record Stock : Type 0 where
   pub facilities : List (Key × Ownership)
   pub queues : List (Key × Line)
@@ -30,7 +30,7 @@ pub record Stock : Type 0 where
   pub savevalues : List (Key × ℤ)
   pub switches : List (Key × Bool)
   pub tables : List (Key × List ℤ)
-  pub comings : Arrivals
+  pub queue_arrivals : Arrivals
 
 abbrev pub entities_of : Stock → Entities
 entities_of e =
@@ -41,5 +41,5 @@ entities_of e =
       savevalues = e.savevalues;
       switches = e.switches;
       tables = e.tables;
-      comings = e.comings.comings;
+      queue_arrivals = e.queue_arrivals.queue_arrivals;
     }

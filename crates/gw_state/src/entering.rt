@@ -1,6 +1,6 @@
 // A transaction enters a block: room is made for all that comes of it, then it moves, and then those come whom its
 // change brings. What may be refused comes first. Each kind of change and of fate is taken apart and has a function of
-// its own: no reference to a change, a fate or a deed goes to a call that is not inlined, since the whole of it would
+// its own: no reference to a change, a fate or an update goes to a call that is not inlined, since the whole of it would
 // lie in memory for that.
 ghost use Rattle.std.specs.Prelude.{◌≡◌, ℕ, ◌+◌, ◌<◌, ◌≤◌, OnOk, OnErr};
 ghost use Rattle.gw_meaning.specs.declared.moves.Change.TheVariants as changes;
@@ -10,13 +10,13 @@ ghost use Rattle.gw_state.specs.Making.{IsAlone, IsSending, HasEntered, HasRoomT
 ghost use Rattle.gw_state.specs.States.{machine_of};
 
 use crate::parts::Parts;
-use crate::waking::{kind_of, shares_of};
+use crate::waking::{grants_of, kind_of};
 use gw_chains::PriorityChain;
 use gw_entities::Parameters;
 use gw_expr::Discipline;
 use gw_meaning::{
-    Arrival, Change, Deed, Destination, EntityChange, EntityKind, Event, Fate, StatementId,
-    Transaction, TransactionChange,
+    Arrival, Change, Destination, EntityChange, EntityKind, Event, Fate, StatementId, Transaction,
+    TransactionChange, Update,
 };
 use gw_names::Key;
 use gw_nums::{Clock, Time};
@@ -40,7 +40,9 @@ impl Parts {
             Change::Nothing => self.enter_for(alloc, id, fate),
             Change::Generate { next } => self.enter_generating(alloc, id, next),
             Change::Transaction(change) => self.enter_changing(alloc, id, change),
-            Change::Entity(EntityChange { key, deed }) => self.enter_doing(alloc, id, &key, &deed),
+            Change::Entity(EntityChange { key, update }) => self.enter_doing(
+                alloc, id, &key, &update,
+            ),
             Change::Split { .. } | Change::Unlink { .. } => self.enter_sending(alloc, id, change),
         }
     }
@@ -301,9 +303,9 @@ impl Parts {
         alloc: Global,
         id: StatementId,
         key: &Key,
-        deed: &Deed,
+        update: &Update,
     ) -> Result<(), AllocError>
-        ensures ok { OnOk result (HasEntered id (changes.Entity (key.now, deed.now)) fates.Active
+        ensures ok { OnOk result (HasEntered id (changes.Entity (key.now, update.now)) fates.Active
             (machine_of self.old) (machine_of self.new)) }
         ensures err { OnErr result (machine_of self.new ≡ machine_of self.old) }
     {
@@ -311,14 +313,14 @@ impl Parts {
             return Ok(());
         };
         let x = *x;
-        let shares = shares_of(deed);
-        let written = self.prepare_with(alloc, x.current, id, kind_of(deed), key, shares)?;
-        self.reserve_to_admit(key, deed, written.count())?;
+        let grants = grants_of(update);
+        let written = self.prepare_with(alloc, x.current, id, kind_of(update), key, grants)?;
+        self.reserve_to_admit(key, update, written.count())?;
         self.entities
-            .make(key, deed, self.clocks.clock(), x.number)?;
+            .make(key, update, self.clocks.clock(), x.number)?;
         self.cross(x.current, id);
         self.active = Some(placed(&x, id));
-        self.admit(key, deed);
+        self.admit(key, update);
         self.wake(&written);
         Ok(())
     }

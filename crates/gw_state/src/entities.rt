@@ -1,16 +1,16 @@
 // The entities of a run.
 ghost use Rattle.std.specs.Prelude.{◌≡◌, IfOk, OnOk, OnErr};
 ghost use Rattle.gw_names.specs.declared.key.Key.{Key as Name};
-ghost use Rattle.gw_entities.specs.Comings.{came};
+ghost use Rattle.gw_entities.specs.QueueArrivals.{came};
 ghost use Rattle.gw_entities.specs.Records.{entered, left};
 ghost use Rattle.gw_entities.specs.Tables.{with_value};
-ghost use Rattle.gw_meaning.specs.declared.entity_change.Deed.TheVariants as deeds;
+ghost use Rattle.gw_meaning.specs.declared.entity_change.Update.TheVariants as updates;
 ghost use Rattle.gw_meaning.specs.Entities.{no_entities, facility_at, line_at, store_at, savevalue_at, switch_at, done, all_entered, entities_anew, later};
 ghost use Rattle.gw_state.specs.Parts.{entities_of};
 
-use crate::deeds::{done_to_facility, done_to_queue, enter_all};
-use gw_entities::{ByKey, Comings, Facility, Queue, Storage, Tables};
-use gw_meaning::{Deed, FacilityDeed, QueueDeed, StorageDeed};
+use crate::updates::{done_to_facility, done_to_queue, enter_all};
+use gw_entities::{ByKey, Facility, Queue, QueueArrivals, Storage, Tables};
+use gw_meaning::{FacilityUpdate, QueueUpdate, StorageUpdate, Update};
 use gw_names::Key;
 use gw_nums::{Clock, Val};
 use std::alloc::{AllocError, Global};
@@ -25,7 +25,7 @@ pub struct Entities {
     savevalues: ByKey<Val>,
     switches: ByKey<bool>,
     tables: Tables,
-    comings: Comings,
+    queue_arrivals: QueueArrivals,
 }
 
 impl Model for Entities {
@@ -40,7 +40,7 @@ impl Model for Entities {
       savevalues = e.savevalues;
       switches = e.switches;
       tables = e.tables;
-      comings = e.comings;
+      queue_arrivals = e.queue_arrivals;
     } };
 }
 
@@ -56,7 +56,7 @@ impl Entities {
             savevalues: ByKey::new(alloc),
             switches: ByKey::new(alloc),
             tables: Tables::new(alloc),
-            comings: Comings::new(alloc),
+            queue_arrivals: QueueArrivals::new(alloc),
         }
     }
 
@@ -143,57 +143,57 @@ impl Entities {
     /// Whether the transaction with a number came to a queue while the clock stands as it does.
     #[inline(always)]
     pub fn has_come(&self, key: &Key, number: u64) -> bool
-        ensures { result ≡ came self.now.comings.comings key.now number }
+        ensures { result ≡ came self.now.queue_arrivals.queue_arrivals key.now number }
     {
-        self.comings.has(key, number)
+        self.queue_arrivals.has(key, number)
     }
 
-    /// Makes of the entity with a key what a deed says, at a clock, where the transaction with a number enters the block.
+    /// Makes of the entity with a key what an update says, at a clock, where the transaction with a number enters the block.
     /// Where memory is refused, nothing changes.
     #[inline(always)]
     pub fn make(
         &mut self,
         key: &Key,
-        deed: &Deed,
+        update: &Update,
         clock: Clock,
         number: u64,
     ) -> Result<(), AllocError>
-        ensures ok { OnOk result (entities_of self.new ≡ done key.now deed.now clock number (entities_of self.old)) }
+        ensures ok { OnOk result (entities_of self.new ≡ done key.now update.now clock number (entities_of self.old)) }
         ensures err { OnErr result (entities_of self.new ≡ entities_of self.old) }
     {
-        match deed {
-            Deed::Facility(deed) => self.make_of_facility(key, *deed, clock, number),
-            Deed::Queue(deed) => self.make_of_queue(key, *deed, clock, number),
-            Deed::Storage(StorageDeed::Enter { units }) => {
+        match update {
+            Update::Facility(update) => self.make_of_facility(key, *update, clock, number),
+            Update::Queue(update) => self.make_of_queue(key, *update, clock, number),
+            Update::Storage(StorageUpdate::Enter { units }) => {
                 self.make_of_entered(key, *units, clock)
             }
-            Deed::Storage(StorageDeed::Leave { units, shares }) => {
-                self.make_of_left(key, *units, shares.as_slice(), clock)
+            Update::Storage(StorageUpdate::Leave { units, grants }) => {
+                self.make_of_left(key, *units, grants.as_slice(), clock)
             }
-            Deed::Savevalue { to } => self.savevalues.put(key, *to),
-            Deed::Switch { set } => self.switches.put(key, *set),
-            Deed::Table { value } => self.tables.add(key, *value),
+            Update::Savevalue { to } => self.savevalues.put(key, *to),
+            Update::Switch { set } => self.switches.put(key, *set),
+            Update::Table { value } => self.tables.add(key, *value),
         }
     }
 
-    // What a deed makes of a facility.
+    // What an update makes of a facility.
     #[inline(never)]
     fn make_of_facility(
         &mut self,
         key: &Key,
-        deed: FacilityDeed,
+        update: FacilityUpdate,
         clock: Clock,
         number: u64,
     ) -> Result<(), AllocError>
         ghost of: { Name }
         requires { of ≡ key.now }
         ensures ok { OnOk result (entities_of self.new ≡
-            done key.now (deeds.Facility deed) clock number (entities_of self.old)) }
+            done key.now (updates.Facility update) clock number (entities_of self.old)) }
         ensures err { OnErr result (entities_of self.new ≡ entities_of self.old) }
     {
         let place = self.facilities.place(key);
         let was = self.facilities.value_at(place, Facility::new());
-        let facility = done_to_facility(deed, clock, number, was);
+        let facility = done_to_facility(update, clock, number, was);
         self.facilities.put_at(key, place, facility)
     }
 
@@ -220,50 +220,50 @@ impl Entities {
         &mut self,
         key: &Key,
         units: u64,
-        shares: &[Option<u64>],
+        grants: &[Option<u64>],
         clock: Clock,
     ) -> Result<(), AllocError>
         ghost of: { Name }
         requires { of ≡ key.now }
         ensures ok { OnOk result (entities_of self.new ≡ record (entities_of self.old) {
           storages = with_value self.old.storages key.now
-              (all_entered shares.now clock (left units clock (store_at (entities_of self.old) key.now)));
+              (all_entered grants.now clock (left units clock (store_at (entities_of self.old) key.now)));
         }) }
         ensures err { OnErr result (entities_of self.new ≡ entities_of self.old) }
     {
         let place = self.storages.place(key);
         let mut storage = self.storages.value_at(place, Storage::new());
         storage.leave(units, clock);
-        enter_all(&mut storage, shares, clock);
+        enter_all(&mut storage, grants, clock);
         self.storages.put_at(key, place, storage)
     }
 
-    // What a deed makes of a queue; who came to it is kept.
+    // What an update makes of a queue; who came to it is kept.
     #[inline(never)]
     fn make_of_queue(
         &mut self,
         key: &Key,
-        deed: QueueDeed,
+        update: QueueUpdate,
         clock: Clock,
         number: u64,
     ) -> Result<(), AllocError>
         ghost of: { Name }
         requires { of ≡ key.now }
         ensures ok { OnOk result (entities_of self.new ≡
-            done key.now (deeds.Queue deed) clock number (entities_of self.old)) }
+            done key.now (updates.Queue update) clock number (entities_of self.old)) }
         ensures err { OnErr result (entities_of self.new ≡ entities_of self.old) }
     {
         let place = self.queues.place(key);
         let was = self.queues.value_at(place, Queue::new());
-        let queue = done_to_queue(deed, clock, was);
-        match deed {
-            QueueDeed::Queue { .. } => {
-                let coming = self.comings.reserve(key)?;
+        let queue = done_to_queue(update, clock, was);
+        match update {
+            QueueUpdate::Queue { .. } => {
+                let coming = self.queue_arrivals.reserve(key)?;
                 self.queues.put_at(key, place, queue)?;
-                self.comings.add(number, coming);
+                self.queue_arrivals.add(number, coming);
                 Ok(())
             }
-            QueueDeed::Depart { .. } => self.queues.put_at(key, place, queue),
+            QueueUpdate::Depart { .. } => self.queues.put_at(key, place, queue),
         }
     }
 
@@ -289,11 +289,11 @@ impl Entities {
     pub fn go_on(&mut self, before: Clock, now: Clock)
         ensures { entities_of self.new ≡ later before now (entities_of self.old) }
     {
-        if self.comings.is_empty() {
+        if self.queue_arrivals.is_empty() {
             return;
         }
         if before.time() != now.time() {
-            self.comings.clear();
+            self.queue_arrivals.clear();
         }
     }
 
@@ -307,7 +307,7 @@ impl Entities {
         self.savevalues.share()?;
         self.switches.share()?;
         self.tables.share()?;
-        self.comings.share()
+        self.queue_arrivals.share()
     }
 
     /// A copy. Its parts are copied in two groups: what is proved of a function grows fast with the exits at which it
@@ -324,7 +324,7 @@ impl Entities {
             savevalues: set.savevalues,
             switches: set.switches,
             tables: set.tables,
-            comings: set.comings,
+            queue_arrivals: set.queue_arrivals,
         })
     }
 
@@ -346,7 +346,7 @@ impl Entities {
         ensures savevalues { IfOk result (λ s. s.savevalues ≡ self.now.savevalues) }
         ensures switches { IfOk result (λ s. s.switches ≡ self.now.switches) }
         ensures tables { IfOk result (λ s. s.tables ≡ self.now.tables) }
-        ensures comings { IfOk result (λ s. s.comings.comings ≡ self.now.comings.comings) }
+        ensures queue_arrivals { IfOk result (λ s. s.queue_arrivals.queue_arrivals ≡ self.now.queue_arrivals.queue_arrivals) }
     {
         let savevalues = self.savevalues.copy()?;
         let switches = self.switches.copy()?;
@@ -355,7 +355,7 @@ impl Entities {
             savevalues,
             switches,
             tables,
-            comings: self.comings.copy()?,
+            queue_arrivals: self.queue_arrivals.copy()?,
         })
     }
 }
@@ -374,5 +374,5 @@ struct Set {
     savevalues: ByKey<Val>,
     switches: ByKey<bool>,
     tables: Tables,
-    comings: Comings,
+    queue_arrivals: QueueArrivals,
 }

@@ -3,28 +3,28 @@ ghost use Rattle.std.specs.Prelude.{◌≡◌, ◌+◌, ◌-◌, ◌<◌, ◌≤
 ghost use Rattle.gw_entities.specs.Tables.{value_of};
 ghost use Rattle.gw_meaning.specs.Machine.{delay_at};
 ghost use Rattle.gw_meaning.specs.Changes.{some_let_in, admitted};
-ghost use Rattle.gw_chains.specs.Chains.{delays_of, room_of, first_of, with_share, IsWithin, AreWithin, HasRoomToLetIn, HasRoomToLetAllIn};
+ghost use Rattle.gw_chains.specs.Chains.{delays_of, room_of, first_of, with_grant, IsWithin, AreWithin, HasRoomToLetIn, HasRoomToLetAllIn};
 ghost use Rattle.gw_state.specs.Admitting.{HasRoomToAdmit, going};
 ghost use Rattle.gw_state.specs.States.{machine_of};
 
 use crate::parts::Parts;
-use gw_chains::{Counts, PriorityChain, has_share, let_in};
-use gw_meaning::{Deed, FacilityDeed, StorageDeed, Transaction};
+use gw_chains::{Counts, PriorityChain, has_grant, let_in};
+use gw_meaning::{FacilityUpdate, StorageUpdate, Transaction, Update};
 use gw_names::Key;
 use std::alloc::AllocError;
 
 impl Parts {
-    // Makes room to let in those of the delay chain of a key whom a deed lets in, beside that for so many others which is
+    // Makes room to let in those of the delay chain of a key whom an update lets in, beside that for so many others which is
     // there. Nobody moves.
     #[inline(always)]
     pub fn reserve_to_admit(
         &mut self,
         key: &Key,
-        deed: &Deed,
+        update: &Update,
         others: usize,
     ) -> Result<(), AllocError>
         requires { others ≤ self.old.current.room }
-        ensures ok { OnOk result (HasRoomToAdmit key.now deed.now self.new.delays (self.new.current.room - others)
+        ensures ok { OnOk result (HasRoomToAdmit key.now update.now self.new.delays (self.new.current.room - others)
             self.new.counts.limit) }
         ensures others { OnOk result (others ≤ self.new.current.room) }
         ensures limit { self.old.counts.limit ≤ self.new.counts.limit }
@@ -35,10 +35,10 @@ impl Parts {
           counts = self.new.counts;
         } }
     {
-        match deed {
-            Deed::Facility(FacilityDeed::Release { .. }) => self.reserve_first(key, others),
-            Deed::Storage(StorageDeed::Leave { shares, .. }) => {
-                self.reserve_some(key, shares.as_slice(), others)
+        match update {
+            Update::Facility(FacilityUpdate::Release { .. }) => self.reserve_first(key, others),
+            Update::Storage(StorageUpdate::Leave { grants, .. }) => {
+                self.reserve_some(key, grants.as_slice(), others)
             }
             _ => Ok(()),
         }
@@ -64,18 +64,18 @@ impl Parts {
         }
     }
 
-    // Room to let in those of the delay chain of a storage who have a share. The chain stays as it is.
+    // Room to let in those of the delay chain of a storage who have a grant. The chain stays as it is.
     #[inline(never)]
     fn reserve_some(
         &mut self,
         key: &Key,
-        shares: &[Option<u64>],
+        grants: &[Option<u64>],
         others: usize,
     ) -> Result<(), AllocError>
         ensures ok { OnOk result (HasRoomToLetAllIn
-            (with_share shares.now (delay_at (delays_of self.old.delays) key.now))
+            (with_grant grants.now (delay_at (delays_of self.old.delays) key.now))
             (self.new.current.room - others) self.new.counts.limit) }
-        ensures going { OnOk result (length (with_share shares.now (delay_at (delays_of self.old.delays) key.now)) ≤
+        ensures going { OnOk result (length (with_grant grants.now (delay_at (delays_of self.old.delays) key.now)) ≤
             room_of (value_of self.new.delays key.now)) }
         ensures others { OnOk result (others ≤ self.new.current.room) }
         ensures limit { self.old.counts.limit ≤ self.new.counts.limit }
@@ -90,7 +90,7 @@ impl Parts {
             self.current.reserve(others)?;
             return Ok(());
         };
-        let count = reserve_blocks(chain, shares, &mut self.counts)?;
+        let count = reserve_blocks(chain, grants, &mut self.counts)?;
         let Some(all) = count.checked_add(others) else {
             return Err(AllocError);
         };
@@ -98,39 +98,39 @@ impl Parts {
         self.delays.reserve(key, count)
     }
 
-    // Those of the delay chain of a key whom a deed lets in go to the current chain, one by one from the front: of a
-    // facility the first, of a storage each with a share.
+    // Those of the delay chain of a key whom an update lets in go to the current chain, one by one from the front: of a
+    // facility the first, of a storage each with a grant.
     #[inline(always)]
-    pub fn admit(&mut self, key: &Key, deed: &Deed)
-        requires { HasRoomToAdmit key.now deed.now self.old.delays self.old.current.room self.old.counts.limit }
-        ensures admitted { machine_of self.new ≡ admitted key.now deed.now (machine_of self.old) }
-        ensures room { self.old.current.room ≤ self.new.current.room + length (going key.now deed.now self.old.delays) }
+    pub fn admit(&mut self, key: &Key, update: &Update)
+        requires { HasRoomToAdmit key.now update.now self.old.delays self.old.current.room self.old.counts.limit }
+        ensures admitted { machine_of self.new ≡ admitted key.now update.now (machine_of self.old) }
+        ensures room { self.old.current.room ≤ self.new.current.room + length (going key.now update.now self.old.delays) }
         ensures rest { self.new ≡ record self.old {
           current = self.new.current;
           delays = self.new.delays;
           counts = self.new.counts;
         } }
     {
-        match deed {
-            Deed::Facility(FacilityDeed::Release { .. }) => self.admit_first(key),
-            Deed::Storage(StorageDeed::Leave { shares, .. }) => {
-                self.admit_some(key, shares.as_slice());
+        match update {
+            Update::Facility(FacilityUpdate::Release { .. }) => self.admit_first(key),
+            Update::Storage(StorageUpdate::Leave { grants, .. }) => {
+                self.admit_some(key, grants.as_slice());
             }
             _ => (),
         }
     }
 
-    // Those of the delay chain of a storage who have a share are let in.
+    // Those of the delay chain of a storage who have a grant are let in.
     #[inline(never)]
-    fn admit_some(&mut self, key: &Key, shares: &[Option<u64>])
-        requires room { HasRoomToLetAllIn (with_share shares.now (delay_at (delays_of self.old.delays) key.now))
+    fn admit_some(&mut self, key: &Key, grants: &[Option<u64>])
+        requires room { HasRoomToLetAllIn (with_grant grants.now (delay_at (delays_of self.old.delays) key.now))
             self.old.current.room self.old.counts.limit }
-        requires going { length (with_share shares.now (delay_at (delays_of self.old.delays) key.now)) ≤
+        requires going { length (with_grant grants.now (delay_at (delays_of self.old.delays) key.now)) ≤
             room_of (value_of self.old.delays key.now) }
-        ensures admitted { machine_of self.new ≡ some_let_in key.now shares.now []
+        ensures admitted { machine_of self.new ≡ some_let_in key.now grants.now []
             (delay_at (delays_of self.old.delays) key.now) (machine_of self.old) }
         ensures room { self.old.current.room ≤ self.new.current.room +
-            length (with_share shares.now (delay_at (delays_of self.old.delays) key.now)) }
+            length (with_grant grants.now (delay_at (delays_of self.old.delays) key.now)) }
         ensures rest { self.new ≡ record self.old {
           current = self.new.current;
           delays = self.new.delays;
@@ -139,7 +139,7 @@ impl Parts {
     {
         let current = &mut self.current;
         self.delays
-            .let_in_some(key, shares, current, &mut self.counts);
+            .let_in_some(key, grants, current, &mut self.counts);
     }
 
     // The first of the delay chain of a facility is let in, where somebody waits.
@@ -150,7 +150,7 @@ impl Parts {
         ensures admitted { machine_of self.new ≡ some_let_in key.now (Some 1 ∷ []) []
             (delay_at (delays_of self.old.delays) key.now) (machine_of self.old) }
         ensures room { self.old.current.room ≤ self.new.current.room +
-            length (with_share (Some 1 ∷ []) (delay_at (delays_of self.old.delays) key.now)) }
+            length (with_grant (Some 1 ∷ []) (delay_at (delays_of self.old.delays) key.now)) }
         ensures rest { self.new ≡ record self.old {
           current = self.new.current;
           delays = self.new.delays;
@@ -163,14 +163,14 @@ impl Parts {
     }
 }
 
-// Makes room for the counts of the blocks at which those with a share wait. Returns how many they are.
+// Makes room for the counts of the blocks at which those with a grant wait. Returns how many they are.
 fn reserve_blocks(
     chain: &PriorityChain,
-    shares: &[Option<u64>],
+    grants: &[Option<u64>],
     counts: &mut Counts,
 ) -> Result<usize, AllocError>
-    ensures count { IfOk result (λ count. count ≡ length (with_share shares.now chain.now.items)) }
-    ensures within { OnOk result (AreWithin (with_share shares.now chain.now.items) counts.new.limit) }
+    ensures count { IfOk result (λ count. count ≡ length (with_grant grants.now chain.now.items)) }
+    ensures within { OnOk result (AreWithin (with_grant grants.now chain.now.items) counts.new.limit) }
     ensures entries { counts.new.entries ≡ counts.old.entries }
     ensures limit { counts.old.limit ≤ counts.new.limit }
 {
@@ -179,7 +179,7 @@ fn reserve_blocks(
         let Some(x) = chain.get(i) else {
             unreachable!()
         };
-        if has_share(shares, i) {
+        if has_grant(grants, i) {
             reserve_block(x, counts)?;
             count += 1;
         }

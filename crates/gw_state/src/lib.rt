@@ -6,7 +6,6 @@
 
 mod clocks;
 mod copy;
-mod deeds;
 mod entering;
 mod entities;
 mod letting_in;
@@ -15,6 +14,7 @@ mod newcomers;
 mod parts;
 mod progress;
 mod state;
+mod updates;
 mod waking;
 
 pub use entities::Entities;

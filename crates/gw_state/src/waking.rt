@@ -1,7 +1,7 @@
 // What a block that is entered writes, for those who wait for a change.
 ghost use Rattle.std.specs.Prelude.{◌≡◌, ◌++◌, ◌∷◌, ◌<◌, ◌≤◌, option_copied, IfOk, OnOk};
 ghost use Rattle.gw_meaning.specs.declared.watched.Watched.TheVariants as watched;
-ghost use Rattle.gw_meaning.specs.Changes.{crossing, crossings, deed_shares, woken};
+ghost use Rattle.gw_meaning.specs.Changes.{crossing, crossings, update_grants, woken};
 ghost use Rattle.gw_meaning.specs.Machine.{delay_at};
 ghost use Rattle.gw_meaning.specs.Watching.{kind_of};
 ghost use Rattle.gw_chains.specs.Chains.{delays_of, items_of};
@@ -9,8 +9,10 @@ ghost use Rattle.gw_state.specs.States.{machine_of};
 ghost use Rattle.gw_state.specs.Waking.{WakesAs, HasRoomToWake, crossed_by, count_woken};
 
 use crate::parts::Parts;
-use gw_chains::{PriorityChain, has_share};
-use gw_meaning::{Deed, EntityKind, FacilityDeed, StatementId, StorageDeed, Transaction, Watched};
+use gw_chains::{PriorityChain, has_grant};
+use gw_meaning::{
+    EntityKind, FacilityUpdate, StatementId, StorageUpdate, Transaction, Update, Watched,
+};
 use gw_names::Key;
 use std::alloc::{AllocError, Global};
 use std::marker::Model;
@@ -77,7 +79,7 @@ impl Parts {
         self.list_written(alloc, from, to)
     }
 
-    // The same, where the entity with a key changes too, and those of its delay chain with a share enter their blocks.
+    // The same, where the entity with a key changes too, and those of its delay chain with a grant enter their blocks.
     #[inline(always)]
     pub fn prepare_with(
         &mut self,
@@ -86,10 +88,10 @@ impl Parts {
         to: StatementId,
         kind: EntityKind,
         key: &Key,
-        shares: &[Option<u64>],
+        grants: &[Option<u64>],
     ) -> Result<Written, AllocError>
         ensures wakes { IfOk result (λ w. WakesAs self.old.retry.waiters w.things (crossed_by from to ++
-            (watched.Entity kind key.now ∷ crossings shares.now (delay_at (delays_of self.old.delays) key.now)))) }
+            (watched.Entity kind key.now ∷ crossings grants.now (delay_at (delays_of self.old.delays) key.now)))) }
         ensures room { IfOk result (λ w. HasRoomToWake w self.new.retry.waiters self.new.retry.room
             self.new.current.room) }
         ensures block { OnOk result (to < self.new.counts.limit) }
@@ -107,7 +109,7 @@ impl Parts {
                 count: 0,
             });
         }
-        self.list_written_with(alloc, from, to, kind, key, shares)
+        self.list_written_with(alloc, from, to, kind, key, grants)
     }
 
     #[cold]
@@ -137,10 +139,10 @@ impl Parts {
         to: StatementId,
         kind: EntityKind,
         key: &Key,
-        shares: &[Option<u64>],
+        grants: &[Option<u64>],
     ) -> Result<Written, AllocError>
         ensures things { IfOk result (λ w. w.things ≡ crossed_by from to ++
-            (watched.Entity kind key.now ∷ crossings shares.now (delay_at (delays_of self.old.delays) key.now))) }
+            (watched.Entity kind key.now ∷ crossings grants.now (delay_at (delays_of self.old.delays) key.now))) }
         ensures room { IfOk result (λ w. HasRoomToWake w self.new.retry.waiters self.new.retry.room
             self.new.current.room) }
         ensures same { machine_of self.new ≡ machine_of self.old }
@@ -148,7 +150,7 @@ impl Parts {
     {
         let mut list = crossed(alloc, from, to)?;
         list.push(Watched::Entity(kind, key.clone()?))?;
-        push_admitted(&mut list, shares, self.delays.chain(key))?;
+        push_admitted(&mut list, grants, self.delays.chain(key))?;
         self.reserve_to_wake(alloc, list)
     }
 
@@ -200,29 +202,29 @@ fn crossed(alloc: Global, from: StatementId, to: StatementId) -> Result<Vec<Watc
     Ok(list)
 }
 
-// The kind of the entity that a deed changes.
+// The kind of the entity that an update changes.
 #[inline(always)]
-pub fn kind_of(deed: &Deed) -> EntityKind
-    ensures { result ≡ kind_of deed.now }
+pub fn kind_of(update: &Update) -> EntityKind
+    ensures { result ≡ kind_of update.now }
 {
-    match deed {
-        Deed::Facility(_) => EntityKind::Facility,
-        Deed::Queue(_) => EntityKind::Queue,
-        Deed::Storage(_) => EntityKind::Storage,
-        Deed::Savevalue { .. } => EntityKind::Savevalue,
-        Deed::Switch { .. } => EntityKind::Switch,
-        Deed::Table { .. } => EntityKind::Table,
+    match update {
+        Update::Facility(_) => EntityKind::Facility,
+        Update::Queue(_) => EntityKind::Queue,
+        Update::Storage(_) => EntityKind::Storage,
+        Update::Savevalue { .. } => EntityKind::Savevalue,
+        Update::Switch { .. } => EntityKind::Switch,
+        Update::Table { .. } => EntityKind::Table,
     }
 }
 
-// The shares of those of the delay chain whom a deed lets in.
+// The grants of those of the delay chain whom an update lets in.
 #[inline(always)]
-pub fn shares_of(deed: &Deed) -> &[Option<u64>]
-    ensures { result.now ≡ deed_shares deed.now }
+pub fn grants_of(update: &Update) -> &[Option<u64>]
+    ensures { result.now ≡ update_grants update.now }
 {
-    match deed {
-        Deed::Facility(FacilityDeed::Release { .. }) => &[Some(1)],
-        Deed::Storage(StorageDeed::Leave { shares, .. }) => shares.as_slice(),
+    match update {
+        Update::Facility(FacilityUpdate::Release { .. }) => &[Some(1)],
+        Update::Storage(StorageUpdate::Leave { grants, .. }) => grants.as_slice(),
         _ => &[],
     }
 }
@@ -242,34 +244,34 @@ fn push_crossing(
     Ok(())
 }
 
-// The counts that those of a delay chain change who have a share, where there is one.
+// The counts that those of a delay chain change who have a grant, where there is one.
 fn push_admitted(
     written: &mut Vec<Watched>,
-    shares: &[Option<u64>],
+    grants: &[Option<u64>],
     chain: Option<&PriorityChain>,
 ) -> Result<(), AllocError>
     ensures { OnOk result (written.new.items ≡
-        written.old.items ++ crossings shares.now (items_of (option_copied chain.entry))) }
+        written.old.items ++ crossings grants.now (items_of (option_copied chain.entry))) }
 {
     match chain {
-        Some(chain) => push_crossings(written, shares, chain),
+        Some(chain) => push_crossings(written, grants, chain),
         None => Ok(()),
     }
 }
 
-// The counts that those of a chain change who have a share.
+// The counts that those of a chain change who have a grant.
 fn push_crossings(
     written: &mut Vec<Watched>,
-    shares: &[Option<u64>],
+    grants: &[Option<u64>],
     chain: &PriorityChain,
 ) -> Result<(), AllocError>
-    ensures { OnOk result (written.new.items ≡ written.old.items ++ crossings shares.now chain.now.items) }
+    ensures { OnOk result (written.new.items ≡ written.old.items ++ crossings grants.now chain.now.items) }
 {
-    for i in 0..chain.len().min(shares.len()) {
+    for i in 0..chain.len().min(grants.len()) {
         let Some(x) = chain.get(i) else {
             unreachable!()
         };
-        if has_share(shares, i) {
+        if has_grant(grants, i) {
             push_crossing(written, x, x.destination.id())?;
         }
     }

@@ -74,7 +74,7 @@ module _ (t : Listing) (seed : ℕ) (s : Machine) (q : Asker) where
 module _ {says : (question : Question) → Reply question → Type 0} where
   -- what is seen stays over an evaluation, and its notes are those of the replies
   noted : {A : Type 0} {p : Evaluation A} {r : Result A Halt} {old new : Seen} → Evaluates says Replies p r old new →
-      Evaluates says (Replied old.context.case.version.now old.context.case.seed old.context.state.now old.context.asker.now) p r old.notes.now new.notes.now × IsStill old new
+      Evaluates says (Replied old.context.run.version.now old.context.run.seed old.context.state.now old.context.asker.now) p r old.notes.now new.notes.now × IsStill old new
   noted (yields a w) = (yields a _, (refl, refl))
   noted (stops stop w) = (stops stop _, (refl, refl))
   noted (refused p w) = (refused p _, (refl, refl))
@@ -87,18 +87,18 @@ module _ {says : (question : Question) → Reply question → Type 0} where
 
 -- what an evaluation over what is seen came to, where it borrows the notes up to here
 pub seen_decides : {A : Type 0} {p : Evaluation A} {r : Result A Halt} {old new : Seen} {notes : Noted} →
-    Evaluates (Replying old.context.case.version.now) Replies p r old new →
+    Evaluates (Replying old.context.run.version.now) Replies p r old new →
     (old.notes.ghost_name ≡ new.notes.ghost_name → notes ≡ new.notes.now) →
-    Decides old.context.case.version.now old.context.case.seed (evaluated old.context.state.now old.context.asker.now p) r old.notes.now notes
+    Decides old.context.run.version.now old.context.run.seed (evaluated old.context.state.now old.context.asker.now p) r old.notes.now notes
 seen_decides {old} h ends =
     let (of_notes, (still, name)) = noted h in
-    rw (ends (sym name)) (evaluation_decides old.context.case.version.now old.context.case.seed old.context.state.now old.context.asker.now of_notes)
+    rw (ends (sym name)) (evaluation_decides old.context.run.version.now old.context.run.seed old.context.state.now old.context.asker.now of_notes)
 
 -- of the value of an operand
 pub value_decides : (operand : Term) {r : Result ℤ Halt} {old new : Seen} {notes : Noted} →
-    Evaluates (Replying old.context.case.version.now) Replies (value_of operand) r old new →
+    Evaluates (Replying old.context.run.version.now) Replies (value_of operand) r old new →
     (old.notes.ghost_name ≡ new.notes.ghost_name → notes ≡ new.notes.now) →
-    Decides old.context.case.version.now old.context.case.seed (value_prog old.context.state.now old.context.asker.now operand) r old.notes.now notes
+    Decides old.context.run.version.now old.context.run.seed (value_prog old.context.state.now old.context.asker.now operand) r old.notes.now notes
 unfolding value_prog
 value_decides operand h ends = seen_decides h ends
 

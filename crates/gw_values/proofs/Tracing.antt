@@ -111,7 +111,7 @@ trace_of w = (w.seen.notes.now, w.read.now.items)
 module _ {says : (question : Question) → Reply question → Type 0} where
   -- what is seen stays over an evaluation, and its notes and what it read are those of the replies
   noted : {A : Type 0} {p : Evaluation A} {r : Result A Halt} {old new : Traced} → Evaluates says TracedReplies p r old new →
-      Evaluates says (TracedReplied old.seen.context.case.version.now old.seen.context.case.seed old.seen.context.state.now old.seen.context.asker.now) p r (trace_of old) (trace_of new) ×
+      Evaluates says (TracedReplied old.seen.context.run.version.now old.seen.context.run.seed old.seen.context.state.now old.seen.context.asker.now) p r (trace_of old) (trace_of new) ×
       IsTracedStill old new
   noted (yields a w) = (yields a _, ((refl, refl), refl))
   noted (stops stop w) = (stops stop _, ((refl, refl), refl))
@@ -125,12 +125,12 @@ module _ {says : (question : Question) → Reply question → Type 0} where
 
 -- what an evaluation over what is seen came to, where it borrows the notes and the list of what was read up to here
 pub traced_decides : {A : Type 0} {p : Evaluation A} {r : Result A Halt} {old new : Traced} {notes : Noted} {read : List Watched} →
-    Evaluates (Replying old.seen.context.case.version.now) TracedReplies p r old new →
+    Evaluates (Replying old.seen.context.run.version.now) TracedReplies p r old new →
     (old.seen.notes.ghost_name ≡ new.seen.notes.ghost_name → notes ≡ new.seen.notes.now) →
     (old.read.ghost_name ≡ new.read.ghost_name → read ≡ new.read.now.items) →
-    Decides old.seen.context.case.version.now old.seen.context.case.seed (traced old.seen.context.state.now old.seen.context.asker.now old.read.now.items p) (with_read r read)
+    Decides old.seen.context.run.version.now old.seen.context.run.seed (traced old.seen.context.state.now old.seen.context.asker.now old.read.now.items p) (with_read r read)
     old.seen.notes.now notes
 traced_decides {old} h ends lists =
     let (of_notes, ((still, name), list)) = noted h in
     rw (ends (sym name), lists (sym list))
-    (evaluation_decides old.seen.context.case.version.now old.seen.context.case.seed old.seen.context.state.now old.seen.context.asker.now of_notes)
+    (evaluation_decides old.seen.context.run.version.now old.seen.context.run.seed old.seen.context.state.now old.seen.context.asker.now of_notes)

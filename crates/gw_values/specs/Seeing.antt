@@ -38,5 +38,5 @@ IsStill old new = (new.context ≡ old.context) × (new.notes.ghost_name ≡ old
 -- what a question is replied to, of what is seen
 abbrev pub Replies : (question : Question) → Seen → Result (Reply question) Halt → Seen → Type 0
 Replies question old result new =
-    Replied old.context.case.version.now old.context.case.seed old.context.state.now old.context.asker.now question old.notes.now result
+    Replied old.context.run.version.now old.context.run.seed old.context.state.now old.context.asker.now question old.notes.now result
     new.notes.now × IsStill old new

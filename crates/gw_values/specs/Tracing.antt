@@ -46,6 +46,6 @@ IsTracedStill old new = IsStill old.seen new.seen × (new.read.ghost_name ≡ ol
 -- what a question is replied to, of what is seen
 abbrev pub TracedReplies : (question : Question) → Traced → Result (Reply question) Halt → Traced → Type 0
 TracedReplies question old result new =
-    TracedReplied old.seen.context.case.version.now old.seen.context.case.seed old.seen.context.state.now old.seen.context.asker.now question
+    TracedReplied old.seen.context.run.version.now old.seen.context.run.seed old.seen.context.state.now old.seen.context.asker.now question
     (old.seen.notes.now, old.read.now.items) result (new.seen.notes.now, new.read.now.items)
     × IsTracedStill old new

@@ -39,7 +39,7 @@ pub fn arrival(
     limit: Option<&Expr>,
     priority: Option<&Expr>,
 ) -> Result<Option<Arrival>, Halt>
-    ensures { Decides context.entry.case.version.now context.entry.case.seed
+    ensures { Decides context.entry.run.version.now context.entry.run.seed
         (arrival_prog context.entry.state.now context.entry.asker.now id
         (count_at context.entry.state.now.counts id).made (option_copied mean.entry) (option_copied range.entry)
         (option_copied limit.entry) (option_copied priority.entry)) result notes.old notes.new }
@@ -65,7 +65,7 @@ fn arrival_in_time(
     range: Option<&Expr>,
     priority: Option<&Expr>,
 ) -> Result<Option<Arrival>, Halt>
-    ensures { Decides context.entry.case.version.now context.entry.case.seed
+    ensures { Decides context.entry.run.version.now context.entry.run.seed
         (arrival_in_time context.entry.state.now context.entry.asker.now id (option_copied mean.entry)
         (option_copied range.entry) (option_copied priority.entry)) result notes.old notes.new }
 {
@@ -103,10 +103,10 @@ pub fn arrivals(
     notes: &mut Notes,
     ids: &[StatementId],
 ) -> Result<Row<Arrival>, Halt>
-    ensures { Decides context.entry.case.version.now context.entry.case.seed
+    ensures { Decides context.entry.run.version.now context.entry.run.seed
         (arrivals_prog context.entry.state.now context.entry.asker.now ids.now []) result notes.old notes.new }
 {
-    let mut arrivals = Vec::new(context.case.alloc);
+    let mut arrivals = Vec::new(context.run.alloc);
     for id in ids {
         let arrival = prime(context, notes, *id)?;
         put_if(&mut arrivals, arrival)?;
@@ -115,10 +115,10 @@ pub fn arrivals(
 }
 
 fn prime(context: Context, notes: &mut Notes, id: StatementId) -> Result<Option<Arrival>, Halt>
-    ensures { Decides context.entry.case.version.now context.entry.case.seed
+    ensures { Decides context.entry.run.version.now context.entry.run.seed
         (prime_prog context.entry.state.now context.entry.asker.now id) result notes.old notes.new }
 {
-    let block = ask_block(context.case.version, notes, id)?;
+    let block = ask_block(context.run.version, notes, id)?;
     first_arrival(context, notes, id, block)
 }
 
@@ -128,7 +128,7 @@ fn first_arrival(
     id: StatementId,
     block: Option<&Block>,
 ) -> Result<Option<Arrival>, Halt>
-    ensures { Decides context.entry.case.version.now context.entry.case.seed
+    ensures { Decides context.entry.run.version.now context.entry.run.seed
         (first_arrival context.entry.state.now context.entry.asker.now id (option_copied block.entry))
         result notes.old notes.new }
 {
@@ -145,7 +145,7 @@ fn first_of(
     id: StatementId,
     block: &Block,
 ) -> Result<Option<Arrival>, Halt>
-    ensures { Decides context.entry.case.version.now context.entry.case.seed
+    ensures { Decides context.entry.run.version.now context.entry.run.seed
         (first_of context.entry.state.now context.entry.asker.now id block.now true) result notes.old notes.new }
 {
     let (mean, range) = match block.operand(C) {

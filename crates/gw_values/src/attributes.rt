@@ -5,7 +5,7 @@ ghost use Rattle.gw_meaning.specs.Evaluation.{amount, own_value, owned, subject_
 ghost use Rattle.gw_asking.specs.Deciding.{Decides, Comes};
 
 use crate::context::Context;
-use gw_asking::{Case, Notes, ask_capacity, ask_label, ask_number, draw, millionths};
+use gw_asking::{Notes, Run, ask_capacity, ask_label, ask_number, draw, millionths};
 use gw_expr::{Halt, Stop, Subject};
 use gw_meaning::{Asker, StatementId};
 use gw_names::{Class, Key, Name};
@@ -20,7 +20,7 @@ pub fn attribute(
     class: Class,
     of: &Subject,
 ) -> Result<Val, Halt>
-    ensures { Decides context.entry.case.version.now context.entry.case.seed
+    ensures { Decides context.entry.run.version.now context.entry.run.seed
         (attribute_prog context.entry.state.now context.entry.asker.now class of.now) result notes.old notes.new }
 {
     match class {
@@ -37,7 +37,7 @@ pub fn attribute(
         Class::R => left(context, notes, of),
         Class::Tc => of_table(context.state, of),
         Class::N | Class::W => of_block(context, notes, class, of),
-        Class::Rn => random(context.case, notes, of),
+        Class::Rn => random(context.run, notes, of),
         _ => Err(Halt::stop(Stop::Range)),
     }
 }
@@ -65,11 +65,11 @@ fn own_value(state: &State, asker: &Asker, class: Class) -> Result<Val, Halt>
 // Of the transaction that asks: its parameter.
 #[inline(always)]
 fn of_parameter(context: Context, notes: &mut Notes, of: &Subject) -> Result<Val, Halt>
-    ensures { Decides context.entry.case.version.now context.entry.case.seed
+    ensures { Decides context.entry.run.version.now context.entry.run.seed
         (subject_prog of.now ~> (λ key. parameter_value context.entry.state.now context.entry.asker.now key))
         result notes.old notes.new }
 {
-    let key = subject(context.case, notes, of)?;
+    let key = subject(context.run, notes, of)?;
     parameter(context.state, context.asker, &key)
 }
 
@@ -86,10 +86,10 @@ fn parameter(state: &State, asker: &Asker, key: &Key) -> Result<Val, Halt>
 
 // Of a facility, a queue, a savevalue, a switch or a user chain.
 fn of_entity(context: Context, notes: &mut Notes, class: Class, of: &Subject) -> Result<Val, Halt>
-    ensures { Decides context.entry.case.version.now context.entry.case.seed
+    ensures { Decides context.entry.run.version.now context.entry.run.seed
         (subject_prog of.now ~> (λ key. entity_value context.entry.state.now class key)) result notes.old notes.new }
 {
-    let key = subject(context.case, notes, of)?;
+    let key = subject(context.run, notes, of)?;
     entity_value(context.state, class, &key)
 }
 
@@ -148,12 +148,12 @@ fn of_table(state: &State, of: &Subject) -> Result<Val, Halt>
 
 // The units of a storage that are left.
 fn left(context: Context, notes: &mut Notes, of: &Subject) -> Result<Val, Halt>
-    ensures { Decides context.entry.case.version.now context.entry.case.seed
+    ensures { Decides context.entry.run.version.now context.entry.run.seed
         (left_prog context.entry.state.now of.now) result notes.old notes.new }
 {
     match of {
         Subject::Name(name) => {
-            let capacity = ask_capacity(context.case.version, notes, name)?;
+            let capacity = ask_capacity(context.run.version, notes, name)?;
             units_left(context.state, capacity, &Key::Defined(name.clone()?))
         }
         _ => Err(Halt::stop(Stop::Range)),
@@ -170,12 +170,12 @@ fn units_left(state: &State, capacity: u64, key: &Key) -> Result<Val, Halt>
 
 // Of a block.
 fn of_block(context: Context, notes: &mut Notes, class: Class, of: &Subject) -> Result<Val, Halt>
-    ensures { Decides context.entry.case.version.now context.entry.case.seed
+    ensures { Decides context.entry.run.version.now context.entry.run.seed
         (block_count of.now (λ id. block_value context.entry.state.now class id)) result notes.old notes.new }
 {
     match of {
         Subject::Name(name) => {
-            let id = ask_label(context.case.version, notes, name)?;
+            let id = ask_label(context.run.version, notes, name)?;
             counted(context.state, class, id)
         }
         _ => Err(Halt::stop(Stop::Range)),
@@ -236,14 +236,14 @@ fn owned(owner: Option<u64>) -> u64
 }
 
 // The facility, the queue, the savevalue, the switch, the user chain or the parameter that an attribute is of.
-pub fn subject(case: Case, notes: &mut Notes, of: &Subject) -> Result<Key, Halt>
-    ensures { Decides case.entry.version.now case.entry.seed (subject_prog of.now) result notes.old notes.new }
+pub fn subject(run: Run, notes: &mut Notes, of: &Subject) -> Result<Key, Halt>
+    ensures { Decides run.entry.version.now run.entry.seed (subject_prog of.now) result notes.old notes.new }
 {
     match of {
         Subject::Own => Err(Halt::stop(Stop::Range)),
         Subject::Number(number) => key_of_number(*number),
         Subject::Name(name) => {
-            let number = ask_number(case.version, notes, name)?;
+            let number = ask_number(run.version, notes, name)?;
             key_named(name, number)
         }
     }
@@ -281,27 +281,27 @@ fn key_of_number(number: u32) -> Result<Key, Halt>
 }
 
 // A random number, 0 to 999, from the stream that an attribute is of.
-fn random(case: Case, notes: &mut Notes, of: &Subject) -> Result<Val, Halt>
-    ensures { Decides case.entry.version.now case.entry.seed (random_prog of.now) result notes.old notes.new }
+fn random(run: Run, notes: &mut Notes, of: &Subject) -> Result<Val, Halt>
+    ensures { Decides run.entry.version.now run.entry.seed (random_prog of.now) result notes.old notes.new }
 {
-    let number = drawn(case, notes, of)?;
+    let number = drawn(run, notes, of)?;
     Ok(thousandth(number))
 }
 
 // A random number, as a part of a million, from the stream that an attribute is of.
-pub fn random_part(case: Case, notes: &mut Notes, of: &Subject) -> Result<Millionths, Halt>
-    ensures { Decides case.entry.version.now case.entry.seed (random_part of.now) result notes.old notes.new }
+pub fn random_part(run: Run, notes: &mut Notes, of: &Subject) -> Result<Millionths, Halt>
+    ensures { Decides run.entry.version.now run.entry.seed (random_part of.now) result notes.old notes.new }
 {
-    let number = drawn(case, notes, of)?;
+    let number = drawn(run, notes, of)?;
     Ok(part(number))
 }
 
 // The number that is drawn from the stream that an attribute is of.
-fn drawn(case: Case, notes: &mut Notes, of: &Subject) -> Result<u32, Halt>
-    ensures { Decides case.entry.version.now case.entry.seed (drawn_prog of.now) result notes.old notes.new }
+fn drawn(run: Run, notes: &mut Notes, of: &Subject) -> Result<u32, Halt>
+    ensures { Decides run.entry.version.now run.entry.seed (drawn_prog of.now) result notes.old notes.new }
 {
     match of {
-        Subject::Number(j) if 1 <= *j && *j <= 7 => draw(case, notes, *j as usize),
+        Subject::Number(j) if 1 <= *j && *j <= 7 => draw(run, notes, *j as usize),
         _ => Err(Halt::stop(Stop::Range)),
     }
 }

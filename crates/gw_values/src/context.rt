@@ -1,7 +1,7 @@
 ghost use Rattle.std.specs.Prelude.{◌≡◌};
 ghost use Rattle.gw_meaning.specs.Step.{for_none, for_one};
 
-use gw_asking::Case;
+use gw_asking::Run;
 use gw_meaning::{Asker, Transaction};
 use gw_nums::{Time, Val};
 use gw_state::State;
@@ -14,7 +14,7 @@ pub struct Context<'a> {
     /// Who asks.
     pub asker: &'a Asker,
     /// The version and the seed of the run, and where memory is found.
-    pub case: Case<'a>,
+    pub run: Run<'a>,
 }
 
 /// Who asks: a transaction, with its number, its priority and its mark time, and the termination count that is left.

@@ -20,7 +20,7 @@ use gw_nums::Val;
 // The value of an operand: that of a constant, as most are, at once.
 #[inline(always)]
 pub fn value(context: Context, notes: &mut Notes, operand: &Expr) -> Result<Val, Halt>
-    ensures { Decides context.entry.case.version.now context.entry.case.seed
+    ensures { Decides context.entry.run.version.now context.entry.run.seed
         (value_prog context.entry.state.now context.entry.asker.now operand.now) result notes.old notes.new }
 {
     match constant(operand) {
@@ -43,18 +43,18 @@ fn constant(operand: &Expr) -> Option<Val>
 // The value of an operand that is evaluated.
 #[inline(never)]
 fn evaluation(context: Context, notes: &mut Notes, operand: &Expr) -> Result<Val, Halt>
-    ensures { Decides context.entry.case.version.now context.entry.case.seed
+    ensures { Decides context.entry.run.version.now context.entry.run.seed
         (value_prog context.entry.state.now context.entry.asker.now operand.now) result notes.old notes.new }
 {
     let mut seen = Seen { context, notes };
-    eval(operand, context.case.version, &mut seen)
+    eval(operand, context.run.version, &mut seen)
 }
 
 /// The value of an operand that is there. It stops as its evaluation does, and with X7 where the operand is absent,
 /// which no version that was read lacks.
 #[inline(always)]
 pub fn value_there(context: Context, notes: &mut Notes, operand: Option<&Expr>) -> Result<Val, Halt>
-    ensures { Decides context.entry.case.version.now context.entry.case.seed
+    ensures { Decides context.entry.run.version.now context.entry.run.seed
         (value_there context.entry.state.now context.entry.asker.now (option_copied operand.entry))
         result notes.old notes.new }
 {
@@ -71,7 +71,7 @@ pub fn value_or_zero(
     notes: &mut Notes,
     operand: Option<&Expr>,
 ) -> Result<Val, Halt>
-    ensures { Decides context.entry.case.version.now context.entry.case.seed
+    ensures { Decides context.entry.run.version.now context.entry.run.seed
         (value_or_zero context.entry.state.now context.entry.asker.now (option_copied operand.entry))
         result notes.old notes.new }
 {
@@ -85,7 +85,7 @@ pub fn value_or_zero(
 /// comes to. X7 where that number is below 1.
 #[inline(always)]
 pub fn key_of(context: Context, notes: &mut Notes, operand: Option<&Expr>) -> Result<Key, Halt>
-    ensures { Decides context.entry.case.version.now context.entry.case.seed
+    ensures { Decides context.entry.run.version.now context.entry.run.seed
         (entity_prog context.entry.state.now context.entry.asker.now (option_copied operand.entry))
         result notes.old notes.new }
 {
@@ -94,7 +94,7 @@ pub fn key_of(context: Context, notes: &mut Notes, operand: Option<&Expr>) -> Re
     };
     match expr.node() {
         Node::Named(name) => {
-            let number = ask_number(context.case.version, notes, name.name())?;
+            let number = ask_number(context.run.version, notes, name.name())?;
             key_named(name.name(), number)
         }
         _ => computed_entity(context, notes, expr),
@@ -104,7 +104,7 @@ pub fn key_of(context: Context, notes: &mut Notes, operand: Option<&Expr>) -> Re
 // The entity whose number is the value of an operand.
 #[inline(always)]
 fn computed_entity(context: Context, notes: &mut Notes, operand: &Expr) -> Result<Key, Halt>
-    ensures { Decides context.entry.case.version.now context.entry.case.seed
+    ensures { Decides context.entry.run.version.now context.entry.run.seed
         (value_prog context.entry.state.now context.entry.asker.now operand.now ~> numbered)
         result notes.old notes.new }
 {
@@ -115,7 +115,7 @@ fn computed_entity(context: Context, notes: &mut Notes, operand: &Expr) -> Resul
 /// How many units an operand says, and 1 where it is absent. X11 where it says less than 1.
 #[inline(always)]
 pub fn units_of(context: Context, notes: &mut Notes, operand: Option<&Expr>) -> Result<u32, Halt>
-    ensures { Decides context.entry.case.version.now context.entry.case.seed
+    ensures { Decides context.entry.run.version.now context.entry.run.seed
         (units_prog context.entry.state.now context.entry.asker.now (option_copied operand.entry))
         result notes.old notes.new }
 {
@@ -137,7 +137,7 @@ pub fn value_traced(
     read: &mut Vec<Watched>,
     operand: Option<&Expr>,
 ) -> Result<Val, Halt>
-    ensures { Decides context.entry.case.version.now context.entry.case.seed
+    ensures { Decides context.entry.run.version.now context.entry.run.seed
         (value_traced context.entry.state.now context.entry.asker.now read.old.items (option_copied operand.entry))
         (with_read result read.new.items) notes.old notes.new }
 {
@@ -153,13 +153,13 @@ fn evaluation_traced(
     read: &mut Vec<Watched>,
     operand: &Expr,
 ) -> Result<Val, Halt>
-    ensures { Decides context.entry.case.version.now context.entry.case.seed
+    ensures { Decides context.entry.run.version.now context.entry.run.seed
         (traced context.entry.state.now context.entry.asker.now read.old.items (value_of operand.now)) (with_read
         result read.new.items) notes.old notes.new }
 {
     let seen = Seen { context, notes };
     let mut traced = Traced { seen, read };
-    eval(operand, context.case.version, &mut traced)
+    eval(operand, context.run.version, &mut traced)
 }
 
 /// The key of the entity that an operand names, with what was read to find it.
@@ -170,13 +170,13 @@ pub fn entity_traced(
     operand: &Expr,
 ) -> Result<Key, Halt>
     requires { read.old.items ≡ [] }
-    ensures { Decides context.entry.case.version.now context.entry.case.seed
+    ensures { Decides context.entry.run.version.now context.entry.run.seed
         (entity_traced context.entry.state.now context.entry.asker.now (Some operand.now)) (with_read result
         read.new.items) notes.old notes.new }
 {
     match operand.node() {
         Node::Named(name) => {
-            let number = ask_number(context.case.version, notes, name.name())?;
+            let number = ask_number(context.run.version, notes, name.name())?;
             key_named(name.name(), number)
         }
         _ => computed_traced(context, notes, read, operand),
@@ -190,7 +190,7 @@ fn computed_traced(
     read: &mut Vec<Watched>,
     operand: &Expr,
 ) -> Result<Key, Halt>
-    ensures { Decides context.entry.case.version.now context.entry.case.seed
+    ensures { Decides context.entry.run.version.now context.entry.run.seed
         (traced context.entry.state.now context.entry.asker.now read.old.items (value_of operand.now) ~>
         (λ r. numbered r.0 ~> (λ key. gives (key, r.1)))) (with_read result read.new.items) notes.old notes.new }
 {

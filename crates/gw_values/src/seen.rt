@@ -20,7 +20,7 @@ impl<'a> World for Seen<'a> {
     ghost replies = { Replies };
 
     fn number(&mut self, name: &Name) -> Result<Option<Val>, Halt> {
-        Ok(ask_number(self.context.case.version, self.notes, name)?)
+        Ok(ask_number(self.context.run.version, self.notes, name)?)
     }
 
     fn attribute(&mut self, sna: Sna<'_>) -> Result<Val, Halt> {
@@ -28,7 +28,7 @@ impl<'a> World for Seen<'a> {
     }
 
     fn part(&mut self, of: &Subject) -> Result<Millionths, Halt> {
-        random_part(self.context.case, self.notes, of)
+        random_part(self.context.run, self.notes, of)
     }
 
     fn note_variable(&mut self, name: &Name) -> Result<(), Halt> {

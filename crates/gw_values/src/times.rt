@@ -19,7 +19,7 @@ pub fn time(
     mean: Option<&Expr>,
     range: Option<&Expr>,
 ) -> Result<Val, Halt>
-    ensures { Decides context.entry.case.version.now context.entry.case.seed
+    ensures { Decides context.entry.run.version.now context.entry.run.seed
         (time_prog context.entry.state.now context.entry.asker.now (option_copied mean.entry)
         (option_copied range.entry)) result notes.old notes.new }
 {
@@ -38,13 +38,13 @@ fn time_by_function(
     range: Option<&Expr>,
     of: &Subject,
 ) -> Result<Val, Halt>
-    ensures { Decides context.entry.case.version.now context.entry.case.seed
+    ensures { Decides context.entry.run.version.now context.entry.run.seed
         (time_by context.entry.state.now context.entry.asker.now (option_copied mean.entry) (option_copied range.entry)
         (Some of.now)) result notes.old notes.new }
 {
     let mean = value_or_zero(context, notes, mean)?;
     let mut seen = Seen { context, notes };
-    let by = eval_function(of, context.case.version, &mut seen)?;
+    let by = eval_function(of, context.run.version, &mut seen)?;
     multiplied(mean, by)
 }
 
@@ -56,11 +56,11 @@ fn time_within(
     mean: Option<&Expr>,
     range: Option<&Expr>,
 ) -> Result<Val, Halt>
-    ensures { Decides context.entry.case.version.now context.entry.case.seed
+    ensures { Decides context.entry.run.version.now context.entry.run.seed
         (time_by context.entry.state.now context.entry.asker.now (option_copied mean.entry) (option_copied range.entry)
         None) result notes.old notes.new }
 {
     let mean = value_or_zero(context, notes, mean)?;
     let range = value_or_zero(context, notes, range)?;
-    sample(context.case, notes, mean, range)
+    sample(context.run, notes, mean, range)
 }

@@ -8,7 +8,7 @@ ghost use Rattle.gw_values.specs.Tracing.{IsTracedStill, TracedReplies, attribut
 
 use crate::attributes::subject;
 use crate::seen::Seen;
-use gw_asking::{Case, Notes, ask_label};
+use gw_asking::{Notes, Run, ask_label};
 use gw_expr::{Halt, Sna, Subject, World};
 use gw_meaning::{EntityKind, StatementId, Watched};
 use gw_names::{Class, Key, Name};
@@ -49,14 +49,14 @@ impl<'a> World for Traced<'a> {
 impl Traced<'_> {
     // The value of an attribute, with what it reads.
     fn of_attribute(&mut self, sna: Sna<'_>) -> Result<Val, Halt>
-        ensures decided { Decides self.old.seen.context.case.version.now self.old.seen.context.case.seed
+        ensures decided { Decides self.old.seen.context.run.version.now self.old.seen.context.run.seed
             (attribute_traced self.old.seen.context.state.now self.old.seen.context.asker.now self.old.read.now.items
             sna.entry.class sna.entry.of.now) (with_read result self.new.read.now.items)
             self.old.seen.notes.now self.new.seen.notes.now }
         ensures same { IsTracedStill self.old self.new }
     {
         let seen = &mut self.seen;
-        let thing = watched(seen.context.case, seen.notes, sna.class, sna.of)?;
+        let thing = watched(seen.context.run, seen.notes, sna.class, sna.of)?;
         let value = seen.attribute(sna)?;
         keep(self.read, thing)?;
         Ok(value)
@@ -65,52 +65,47 @@ impl Traced<'_> {
 
 // What an attribute reads that a block may write.
 #[tactic(auto, unfolding(gw_meaning::specs::Evaluation::watched_prog))]
-fn watched(
-    case: Case,
-    notes: &mut Notes,
-    class: Class,
-    of: &Subject,
-) -> Result<Option<Watched>, Halt>
-    ensures { Decides case.entry.version.now case.entry.seed (watched_prog class of.now) (listed result)
+fn watched(run: Run, notes: &mut Notes, class: Class, of: &Subject) -> Result<Option<Watched>, Halt>
+    ensures { Decides run.entry.version.now run.entry.seed (watched_prog class of.now) (listed result)
         notes.old notes.new }
 {
     match class {
-        Class::F | Class::Fc => entity_watched(case, notes, EntityKind::Facility, of),
-        Class::Q | Class::Qc => entity_watched(case, notes, EntityKind::Queue, of),
-        Class::Qm | Class::Qz => entity_watched(case, notes, EntityKind::Queue, of),
-        Class::X => entity_watched(case, notes, EntityKind::Savevalue, of),
-        Class::Ls => entity_watched(case, notes, EntityKind::Switch, of),
-        Class::Ch | Class::Cc => entity_watched(case, notes, EntityKind::UserChain, of),
-        Class::S | Class::R => defined_watched(case, notes, EntityKind::Storage, of),
-        Class::Sc | Class::Sm => defined_watched(case, notes, EntityKind::Storage, of),
-        Class::Tc => defined_watched(case, notes, EntityKind::Table, of),
-        Class::N | Class::W => counts_watched(case, notes, of),
+        Class::F | Class::Fc => entity_watched(run, notes, EntityKind::Facility, of),
+        Class::Q | Class::Qc => entity_watched(run, notes, EntityKind::Queue, of),
+        Class::Qm | Class::Qz => entity_watched(run, notes, EntityKind::Queue, of),
+        Class::X => entity_watched(run, notes, EntityKind::Savevalue, of),
+        Class::Ls => entity_watched(run, notes, EntityKind::Switch, of),
+        Class::Ch | Class::Cc => entity_watched(run, notes, EntityKind::UserChain, of),
+        Class::S | Class::R => defined_watched(run, notes, EntityKind::Storage, of),
+        Class::Sc | Class::Sm => defined_watched(run, notes, EntityKind::Storage, of),
+        Class::Tc => defined_watched(run, notes, EntityKind::Table, of),
+        Class::N | Class::W => counts_watched(run, notes, of),
         _ => Ok(None),
     }
 }
 
 // The entity of a kind that an attribute is of.
 fn entity_watched(
-    case: Case,
+    run: Run,
     notes: &mut Notes,
     kind: EntityKind,
     of: &Subject,
 ) -> Result<Option<Watched>, Halt>
-    ensures { Decides case.entry.version.now case.entry.seed (entity_watched kind of.now) (listed result)
+    ensures { Decides run.entry.version.now run.entry.seed (entity_watched kind of.now) (listed result)
         notes.old notes.new }
 {
-    let key = subject(case, notes, of)?;
+    let key = subject(run, notes, of)?;
     Ok(Some(Watched::Entity(kind, key)))
 }
 
 // The storage or the table that an attribute is of.
 fn defined_watched(
-    case: Case,
+    run: Run,
     notes: &mut Notes,
     kind: EntityKind,
     of: &Subject,
 ) -> Result<Option<Watched>, Halt>
-    ensures { Decides case.entry.version.now case.entry.seed (defined_watched kind of.now) (listed result)
+    ensures { Decides run.entry.version.now run.entry.seed (defined_watched kind of.now) (listed result)
         notes.old notes.new }
 {
     match of {
@@ -123,13 +118,13 @@ fn defined_watched(
 }
 
 // The counts of the block that an attribute is of.
-fn counts_watched(case: Case, notes: &mut Notes, of: &Subject) -> Result<Option<Watched>, Halt>
-    ensures { Decides case.entry.version.now case.entry.seed (counts_watched of.now) (listed result)
+fn counts_watched(run: Run, notes: &mut Notes, of: &Subject) -> Result<Option<Watched>, Halt>
+    ensures { Decides run.entry.version.now run.entry.seed (counts_watched of.now) (listed result)
         notes.old notes.new }
 {
     match of {
         Subject::Name(name) => {
-            let id = ask_label(case.version, notes, name)?;
+            let id = ask_label(run.version, notes, name)?;
             Ok(counts_of(id))
         }
         _ => Ok(None),

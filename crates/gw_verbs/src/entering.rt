@@ -4,7 +4,7 @@ ghost use Rattle.gw_meaning.specs.declared.moves.Change.TheVariants as changes;
 ghost use Rattle.gw_meaning.specs.declared.moves.Fate.TheVariants as fates;
 ghost use Rattle.gw_meaning.specs.declared.moves.Move.TheVariants as moves;
 
-use gw_meaning::{Change, Deed, EntityChange, Fate, Move, StatementId, TransactionChange};
+use gw_meaning::{Change, EntityChange, Fate, Move, StatementId, TransactionChange, Update};
 use gw_names::Key;
 
 // It is entered, and no more.
@@ -41,12 +41,12 @@ pub fn enter_with(id: StatementId, change: TransactionChange) -> Move
 
 // It changes the entity with a key.
 #[inline(always)]
-pub fn enter_doing(id: StatementId, key: Key, deed: Deed) -> Move
-    ensures { result ≡ moves.Enter id (changes.Entity (key, deed)) fates.Active }
+pub fn enter_doing(id: StatementId, key: Key, update: Update) -> Move
+    ensures { result ≡ moves.Enter id (changes.Entity (key, update)) fates.Active }
 {
     Move::Enter {
         id,
-        change: Change::Entity(EntityChange { key, deed }),
+        change: Change::Entity(EntityChange { key, update }),
         fate: Fate::Active,
     }
 }

@@ -19,7 +19,7 @@ pub fn decide_advance(
     mean: Option<&Expr>,
     range: Option<&Expr>,
 ) -> Result<Move, Halt>
-    ensures { Decides context.entry.case.version.now context.entry.case.seed
+    ensures { Decides context.entry.run.version.now context.entry.run.seed
         (advance_prog context.entry.state.now context.entry.asker.now id (option_copied mean.entry)
         (option_copied range.entry)) result notes.old notes.new }
 {
@@ -52,7 +52,7 @@ pub fn decide_terminate(
     id: StatementId,
     count: Option<&Expr>,
 ) -> Result<Move, Halt>
-    ensures { Decides context.entry.case.version.now context.entry.case.seed
+    ensures { Decides context.entry.run.version.now context.entry.run.seed
         (terminate_prog context.entry.state.now context.entry.asker.now id (option_copied count.entry))
         result notes.old notes.new }
 {

@@ -25,7 +25,7 @@ pub fn decide_gate(
     entity: Option<&Expr>,
     label: Option<&Expr>,
 ) -> Result<Move, Halt>
-    ensures { Decides context.entry.case.version.now context.entry.case.seed
+    ensures { Decides context.entry.run.version.now context.entry.run.seed
         (gate_prog context.entry.state.now context.entry.asker.now id operator (option_copied entity.entry)
         (option_copied label.entry)) result notes.old notes.new }
 {
@@ -50,7 +50,7 @@ fn gate_other(
     entity: &Expr,
     label: Option<&Expr>,
 ) -> Result<Move, Halt>
-    ensures { Decides context.entry.case.version.now context.entry.case.seed
+    ensures { Decides context.entry.run.version.now context.entry.run.seed
         (gate_other context.entry.state.now context.entry.asker.now id condition (Some entity.now)
         (option_copied label.entry)) result notes.old notes.new }
 {
@@ -60,7 +60,7 @@ fn gate_other(
             gate_or_lead(context, notes, id, condition, label, &key, 0)
         }
         None => {
-            let mut read = Vec::new(context.case.alloc);
+            let mut read = Vec::new(context.run.alloc);
             let key = entity_traced(context, notes, &mut read, entity)?;
             gate_or_wait(context.state, id, condition, key, read, 0)
         }
@@ -76,14 +76,14 @@ fn gate_storage(
     name: &StorageName,
     label: Option<&Expr>,
 ) -> Result<Move, Halt>
-    ensures { Decides context.entry.case.version.now context.entry.case.seed
+    ensures { Decides context.entry.run.version.now context.entry.run.seed
         (gate_storage context.entry.state.now id condition (option_copied label.entry) name.now
         (reads_capacity condition)) result notes.old notes.new }
 {
     if !reads_capacity(condition) {
         return gate_at(context, notes, id, condition, label, name.key(), 0);
     }
-    let capacity = ask_capacity(context.case.version, notes, name.name())?;
+    let capacity = ask_capacity(context.run.version, notes, name.name())?;
     gate_at(context, notes, id, condition, label, name.key(), capacity)
 }
 
@@ -97,14 +97,14 @@ fn gate_at(
     key: &Key,
     capacity: u64,
 ) -> Result<Move, Halt>
-    ensures { Decides context.entry.case.version.now context.entry.case.seed
+    ensures { Decides context.entry.run.version.now context.entry.run.seed
         (gate_at context.entry.state.now id condition (option_copied label.entry) key.now [] capacity)
         result notes.old notes.new }
 {
     match label {
         Some(label) => gate_or_lead(context, notes, id, condition, label, key, capacity),
         None => {
-            let read = Vec::new(context.case.alloc);
+            let read = Vec::new(context.run.alloc);
             gate_or_wait(context.state, id, condition, key.clone()?, read, capacity)
         }
     }
@@ -120,14 +120,14 @@ fn gate_or_lead(
     key: &Key,
     capacity: u64,
 ) -> Result<Move, Halt>
-    ensures { (read : List Watched) → Decides context.entry.case.version.now context.entry.case.seed
+    ensures { (read : List Watched) → Decides context.entry.run.version.now context.entry.run.seed
         (gate_at context.entry.state.now id condition (Some label.now) key.now read capacity)
         result notes.old notes.new }
 {
     if is_open(context.state, condition, key, capacity) {
         return Ok(pass(id));
     }
-    lead_to(context.case, notes, id, Some(label))
+    lead_to(context.run, notes, id, Some(label))
 }
 
 // On where the condition holds of the entity with a key; else the transaction waits for a change of it, and of what was

@@ -21,7 +21,7 @@ pub fn decide_generate(
     limit: Option<&Expr>,
     priority: Option<&Expr>,
 ) -> Result<Move, Halt>
-    ensures { Decides context.entry.case.version.now context.entry.case.seed
+    ensures { Decides context.entry.run.version.now context.entry.run.seed
         (generate_prog context.entry.state.now x.now id (option_copied mean.entry) (option_copied range.entry)
         (option_copied limit.entry) (option_copied priority.entry)) result notes.old notes.new }
 {

@@ -5,7 +5,7 @@ ghost use Rattle.gw_meaning.specs.Step.{by_fraction, go_to, holds, lead_to, pass
 ghost use Rattle.gw_asking.specs.Deciding.{Decides, Comes};
 
 use crate::entering::{enter_with, pass};
-use gw_asking::{Case, Notes, ask_label, draw, millionths};
+use gw_asking::{Notes, Run, ask_label, draw, millionths};
 use gw_expr::{Expr, Halt, Node, Row, Stop};
 use gw_meaning::{Auxiliary, Move, StatementId, TransactionChange, Watched};
 use gw_nums::Val;
@@ -23,7 +23,7 @@ pub fn decide_test(
     second: Option<&Expr>,
     label: Option<&Expr>,
 ) -> Result<Move, Halt>
-    ensures { Decides context.entry.case.version.now context.entry.case.seed
+    ensures { Decides context.entry.run.version.now context.entry.run.seed
         (test_prog context.entry.state.now context.entry.asker.now id relation (option_copied first.entry)
         (option_copied second.entry) (option_copied label.entry)) result notes.old notes.new }
 {
@@ -43,7 +43,7 @@ fn test_or_lead(
     second: Option<&Expr>,
     label: &Expr,
 ) -> Result<Move, Halt>
-    ensures { Decides context.entry.case.version.now context.entry.case.seed
+    ensures { Decides context.entry.run.version.now context.entry.run.seed
         (test_prog context.entry.state.now context.entry.asker.now id relation (option_copied first.entry)
         (option_copied second.entry) (Some label.now)) result notes.old notes.new }
 {
@@ -52,7 +52,7 @@ fn test_or_lead(
     if holds(relation, first, second) {
         return Ok(pass(id));
     }
-    lead_to(context.case, notes, id, Some(label))
+    lead_to(context.run, notes, id, Some(label))
 }
 
 #[inline(always)]
@@ -64,11 +64,11 @@ fn test_or_wait(
     first: Option<&Expr>,
     second: Option<&Expr>,
 ) -> Result<Move, Halt>
-    ensures { Decides context.entry.case.version.now context.entry.case.seed
+    ensures { Decides context.entry.run.version.now context.entry.run.seed
         (test_or_wait context.entry.state.now context.entry.asker.now id relation (option_copied first.entry)
         (option_copied second.entry)) result notes.old notes.new }
 {
-    let mut read = Vec::new(context.case.alloc);
+    let mut read = Vec::new(context.run.alloc);
     let first = value_traced(context, notes, &mut read, first)?;
     let second = value_traced(context, notes, &mut read, second)?;
     Ok(pass_or_watch(id, holds(relation, first, second), read))
@@ -90,40 +90,40 @@ fn pass_or_watch(id: StatementId, passes: bool, read: Vec<Watched>) -> Move
 /// the far label is taken where what is drawn lies below it.
 #[inline(always)]
 pub fn decide_transfer(
-    case: Case,
+    run: Run,
     notes: &mut Notes,
     id: StatementId,
     fraction: Option<&Expr>,
     near: Option<&Expr>,
     far: Option<&Expr>,
 ) -> Result<Move, Halt>
-    ensures { Decides case.entry.version.now case.entry.seed
+    ensures { Decides run.entry.version.now run.entry.seed
         (transfer_prog id (option_copied fraction.entry) (option_copied near.entry) (option_copied far.entry))
         result notes.old notes.new }
 {
     let Some(expr) = fraction else {
-        return lead_to(case, notes, id, near);
+        return lead_to(run, notes, id, near);
     };
     match expr.node() {
-        Node::Fraction(part) => by_fraction(case, notes, id, *part, near, far),
-        _ => lead_to(case, notes, id, near),
+        Node::Fraction(part) => by_fraction(run, notes, id, *part, near, far),
+        _ => lead_to(run, notes, id, near),
     }
 }
 
 #[inline(always)]
 fn by_fraction(
-    case: Case,
+    run: Run,
     notes: &mut Notes,
     id: StatementId,
     part: u32,
     near: Option<&Expr>,
     far: Option<&Expr>,
 ) -> Result<Move, Halt>
-    ensures { Decides case.entry.version.now case.entry.seed
+    ensures { Decides run.entry.version.now run.entry.seed
         (by_fraction id part (option_copied near.entry) (option_copied far.entry)) result notes.old notes.new }
 {
-    let number = draw(case, notes, 1)?;
-    lead_to(case, notes, id, chosen(number, part, near, far))
+    let number = draw(run, notes, 1)?;
+    lead_to(run, notes, id, chosen(number, part, near, far))
 }
 
 // The far operand where the number that was drawn is below the fraction, else the near one.
@@ -163,12 +163,12 @@ fn holds(relation: Auxiliary, first: Val, second: Val) -> bool
 // To the block with a label, or to the next block where there is none.
 #[inline(always)]
 pub fn lead_to(
-    case: Case,
+    run: Run,
     notes: &mut Notes,
     id: StatementId,
     label: Option<&Expr>,
 ) -> Result<Move, Halt>
-    ensures { Decides case.entry.version.now case.entry.seed (lead_to id (option_copied label.entry))
+    ensures { Decides run.entry.version.now run.entry.seed (lead_to id (option_copied label.entry))
         result notes.old notes.new }
 {
     let Some(expr) = label else {
@@ -176,7 +176,7 @@ pub fn lead_to(
     };
     match expr.node() {
         Node::Label(name) => {
-            let to = ask_label(case.version, notes, name)?;
+            let to = ask_label(run.version, notes, name)?;
             go_to(id, to)
         }
         _ => Ok(pass(id)),

@@ -7,7 +7,7 @@ ghost use Rattle.gw_meaning.specs.declared.moves.Move.TheVariants as moves;
 ghost use Rattle.gw_asking.specs.Deciding.{Decides, Comes};
 
 use crate::entering::{enter_bringing, enter_for};
-use gw_asking::{Case, Notes, ask_label};
+use gw_asking::{Notes, Run, ask_label};
 use gw_expr::{Discipline, Expr, Halt, Node, Stop};
 use gw_meaning::{Change, Destination, Fate, Move, StatementId};
 use gw_names::Key;
@@ -22,7 +22,7 @@ pub fn decide_link(
     entity: Option<&Expr>,
     order: Option<&Expr>,
 ) -> Result<Move, Halt>
-    ensures { Decides context.entry.case.version.now context.entry.case.seed
+    ensures { Decides context.entry.run.version.now context.entry.run.seed
         (link_prog context.entry.state.now context.entry.asker.now id (option_copied entity.entry)
         (option_copied order.entry)) result notes.old notes.new }
 {
@@ -49,14 +49,14 @@ pub fn decide_unlink(
     label: Option<&Expr>,
     count: Option<&Expr>,
 ) -> Result<Move, Halt>
-    ensures { Decides context.entry.case.version.now context.entry.case.seed
+    ensures { Decides context.entry.run.version.now context.entry.run.seed
         (unlink_prog context.entry.state.now context.entry.asker.now id (option_copied entity.entry)
         (option_copied label.entry) (option_copied count.entry)) result notes.old notes.new }
 {
     let key = key_of(context, notes, entity)?;
     let there = context.state.linked().len(&key) as u64;
     let count = leaving(context, notes, count, there)?;
-    unlink_count(context.case, notes, id, key, label, count)
+    unlink_count(context.run, notes, id, key, label, count)
 }
 
 // How many leave of so many: all, or no more than the count says.
@@ -67,7 +67,7 @@ fn leaving(
     count: Option<&Expr>,
     there: u64,
 ) -> Result<u64, Halt>
-    ensures { Decides context.entry.case.version.now context.entry.case.seed
+    ensures { Decides context.entry.run.version.now context.entry.run.seed
         (leaving_prog context.entry.state.now context.entry.asker.now (option_copied count.entry) there)
         result notes.old notes.new }
 {
@@ -88,14 +88,14 @@ fn link_to(id: StatementId, key: Key, discipline: Discipline) -> Move
 // A label is looked up only where somebody goes there.
 #[inline(always)]
 fn unlink_count(
-    case: Case,
+    run: Run,
     notes: &mut Notes,
     id: StatementId,
     key: Key,
     label: Option<&Expr>,
     count: u64,
 ) -> Result<Move, Halt>
-    ensures { Decides case.entry.version.now case.entry.seed
+    ensures { Decides run.entry.version.now run.entry.seed
         (unlink_count id key (option_copied label.entry) count) result notes.old notes.new }
 {
     if count == 0 {
@@ -106,7 +106,7 @@ fn unlink_count(
     };
     match expr.node() {
         Node::Label(name) => {
-            let to = ask_label(case.version, notes, name)?;
+            let to = ask_label(run.version, notes, name)?;
             unlink_to(id, key, count, to)
         }
         _ => Err(Halt::stop(Stop::NoNextBlock)),

@@ -5,7 +5,7 @@ ghost use Rattle.gw_meaning.specs.Step.{by_sign, or_zero, assign_with, assign_pr
 ghost use Rattle.gw_asking.specs.Deciding.{Decides, Comes};
 
 use crate::entering::enter_with;
-use gw_asking::{Case, Notes, ask_label};
+use gw_asking::{Notes, Run, ask_label};
 use gw_expr::{Expr, Halt, Node, Operator, Stop};
 use gw_meaning::{Auxiliary, Move, StatementId, TransactionChange};
 use gw_names::Key;
@@ -23,7 +23,7 @@ pub fn decide_assign(
     parameter: Option<&Expr>,
     value: Option<&Expr>,
 ) -> Result<Move, Halt>
-    ensures { Decides context.entry.case.version.now context.entry.case.seed
+    ensures { Decides context.entry.run.version.now context.entry.run.seed
         (assign_prog context.entry.state.now context.entry.asker.now id sign (option_copied parameter.entry)
         (option_copied value.entry)) result notes.old notes.new }
 {
@@ -43,13 +43,13 @@ pub fn decide_loop(
     parameter: Option<&Expr>,
     label: Option<&Expr>,
 ) -> Result<Move, Halt>
-    ensures { Decides context.entry.case.version.now context.entry.case.seed
+    ensures { Decides context.entry.run.version.now context.entry.run.seed
         (loop_prog context.entry.state.now context.entry.asker.now id (option_copied parameter.entry)
         (option_copied label.entry)) result notes.old notes.new }
 {
     let key = key_of(context, notes, parameter)?;
     let left = left_of(context.state.parameters().get(context.asker.number, &key))?;
-    loop_with(context.case, notes, id, key, left, label)
+    loop_with(context.run, notes, id, key, left, label)
 }
 
 #[inline(always)]
@@ -112,33 +112,33 @@ fn one() -> Val
 // At 0 the transaction goes on to the next block, else back to the one with the label.
 #[inline(always)]
 fn loop_with(
-    case: Case,
+    run: Run,
     notes: &mut Notes,
     id: StatementId,
     key: Key,
     left: Val,
     label: Option<&Expr>,
 ) -> Result<Move, Halt>
-    ensures { Decides case.entry.version.now case.entry.seed
+    ensures { Decides run.entry.version.now run.entry.seed
         (loop_with id key left (option_copied label.entry)) result notes.old notes.new }
 {
     if left.magnitude() == 0 {
         let change = TransactionChange::Assign { key, to: left };
         return Ok(enter_with(id, change));
     }
-    loop_to(case, notes, id, key, left, label)
+    loop_to(run, notes, id, key, left, label)
 }
 
 #[inline(always)]
 fn loop_to(
-    case: Case,
+    run: Run,
     notes: &mut Notes,
     id: StatementId,
     key: Key,
     left: Val,
     label: Option<&Expr>,
 ) -> Result<Move, Halt>
-    ensures { Decides case.entry.version.now case.entry.seed
+    ensures { Decides run.entry.version.now run.entry.seed
         (loop_to id key left (option_copied label.entry)) result notes.old notes.new }
 {
     let Some(expr) = label else {
@@ -146,7 +146,7 @@ fn loop_to(
     };
     match expr.node() {
         Node::Label(name) => {
-            let to = ask_label(case.version, notes, name)?;
+            let to = ask_label(run.version, notes, name)?;
             loop_back(id, key, left, to)
         }
         _ => Err(Halt::stop(Stop::NoNextBlock)),

@@ -17,7 +17,7 @@ pub fn decide_priority(
     id: StatementId,
     priority: Option<&Expr>,
 ) -> Result<Move, Halt>
-    ensures { Decides context.entry.case.version.now context.entry.case.seed
+    ensures { Decides context.entry.run.version.now context.entry.run.seed
         (priority_prog context.entry.state.now context.entry.asker.now id (option_copied priority.entry))
         result notes.old notes.new }
 {

@@ -7,7 +7,7 @@ use crate::entering::enter_doing;
 use gw_asking::Notes;
 use gw_entities::Queue;
 use gw_expr::{Expr, Halt, Stop};
-use gw_meaning::{Deed, Move, QueueDeed, StatementId, Transaction};
+use gw_meaning::{Move, QueueUpdate, StatementId, Transaction, Update};
 use gw_names::Key;
 use gw_values::{Context, key_of, units_of};
 
@@ -20,7 +20,7 @@ pub fn decide_queue(
     entity: Option<&Expr>,
     units: Option<&Expr>,
 ) -> Result<Move, Halt>
-    ensures { Decides context.entry.case.version.now context.entry.case.seed
+    ensures { Decides context.entry.run.version.now context.entry.run.seed
         (queue_prog context.entry.state.now context.entry.asker.now id (option_copied entity.entry)
         (option_copied units.entry)) result notes.old notes.new }
 {
@@ -41,7 +41,7 @@ pub fn decide_depart(
     entity: Option<&Expr>,
     units: Option<&Expr>,
 ) -> Result<Move, Halt>
-    ensures { Decides context.entry.case.version.now context.entry.case.seed
+    ensures { Decides context.entry.run.version.now context.entry.run.seed
         (depart_prog context.entry.state.now context.entry.asker.now x.now id (option_copied entity.entry)
         (option_copied units.entry)) result notes.old notes.new }
 {
@@ -62,7 +62,7 @@ fn queue_units(id: StatementId, key: Key, line: Queue, units: u64) -> Result<Mov
     {
         return Err(Halt::stop(Stop::TooManyUnits));
     }
-    Ok(enter_doing(id, key, Deed::Queue(QueueDeed::Queue { units })))
+    Ok(enter_doing(id, key, Update::Queue(QueueUpdate::Queue { units })))
 }
 
 // So many units leave, unless a count would be too great or fewer are there.
@@ -82,8 +82,8 @@ fn depart_units(
     if line.level().content() < units {
         return Err(Halt::stop(Stop::DepartTooMany));
     }
-    let deed = QueueDeed::Depart { units, at_once };
-    Ok(enter_doing(id, key, Deed::Queue(deed)))
+    let update = QueueUpdate::Depart { units, at_once };
+    Ok(enter_doing(id, key, Update::Queue(update)))
 }
 
 // Whether a content or a count of entries is beyond what it may be.

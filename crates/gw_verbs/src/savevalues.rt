@@ -7,7 +7,7 @@ use crate::entering::enter_doing;
 use crate::parameters::{arithmetic, by_sign};
 use gw_asking::Notes;
 use gw_expr::{Expr, Halt};
-use gw_meaning::{Auxiliary, Deed, Move, StatementId};
+use gw_meaning::{Auxiliary, Move, StatementId, Update};
 use gw_names::Key;
 use gw_nums::Val;
 use gw_values::{Context, key_of, value_there};
@@ -23,7 +23,7 @@ pub fn decide_savevalue(
     entity: Option<&Expr>,
     value: Option<&Expr>,
 ) -> Result<Move, Halt>
-    ensures { Decides context.entry.case.version.now context.entry.case.seed
+    ensures { Decides context.entry.run.version.now context.entry.run.seed
         (savevalue_prog context.entry.state.now context.entry.asker.now id sign (option_copied entity.entry)
         (option_copied value.entry)) result notes.old notes.new }
 {
@@ -44,5 +44,5 @@ fn savevalue_with(
     ensures { Comes (savevalue_with id sign key was value) result }
 {
     let to = arithmetic(by_sign(sign, was, value))?;
-    Ok(enter_doing(id, key, Deed::Savevalue { to }))
+    Ok(enter_doing(id, key, Update::Savevalue { to }))
 }

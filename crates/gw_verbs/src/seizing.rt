@@ -7,7 +7,7 @@ ghost use Rattle.gw_asking.specs.Deciding.{Decides, Comes};
 use crate::entering::enter_doing;
 use gw_asking::Notes;
 use gw_expr::{Expr, Halt, Stop};
-use gw_meaning::{Deed, FacilityDeed, Move, StatementId, Transaction};
+use gw_meaning::{FacilityUpdate, Move, StatementId, Transaction, Update};
 use gw_names::Key;
 use gw_state::State;
 use gw_values::{Context, key_of};
@@ -20,7 +20,7 @@ pub fn decide_seize(
     id: StatementId,
     entity: Option<&Expr>,
 ) -> Result<Move, Halt>
-    ensures { Decides context.entry.case.version.now context.entry.case.seed
+    ensures { Decides context.entry.run.version.now context.entry.run.seed
         (seize_prog context.entry.state.now context.entry.asker.now id (option_copied entity.entry))
         result notes.old notes.new }
 {
@@ -38,7 +38,7 @@ pub fn decide_release(
     id: StatementId,
     entity: Option<&Expr>,
 ) -> Result<Move, Halt>
-    ensures { Decides context.entry.case.version.now context.entry.case.seed
+    ensures { Decides context.entry.run.version.now context.entry.run.seed
         (release_prog context.entry.state.now context.entry.asker.now x.now id (option_copied entity.entry))
         result notes.old notes.new }
 {
@@ -66,7 +66,7 @@ fn seize_or_wait(id: StatementId, key: Key, owned: bool) -> Result<Move, Halt>
     if owned {
         return Ok(Move::Refuse { id, key, units: 1 });
     }
-    Ok(enter_doing(id, key, Deed::Facility(FacilityDeed::Seize)))
+    Ok(enter_doing(id, key, Update::Facility(FacilityUpdate::Seize)))
 }
 
 #[inline(always)]
@@ -76,8 +76,8 @@ fn release_to(id: StatementId, key: Key, owns: bool, next: Option<u64>) -> Resul
     if !owns {
         return Err(Halt::stop(Stop::NotOwner));
     }
-    let deed = FacilityDeed::Release { next };
-    Ok(enter_doing(id, key, Deed::Facility(deed)))
+    let update = FacilityUpdate::Release { next };
+    Ok(enter_doing(id, key, Update::Facility(update)))
 }
 
 // Whether the transaction with a number owns it.

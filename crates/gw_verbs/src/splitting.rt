@@ -5,7 +5,7 @@ ghost use Rattle.gw_meaning.specs.Step.{split_prog, split_value, split_count, sp
 ghost use Rattle.gw_asking.specs.Deciding.{Decides, Comes};
 
 use crate::entering::enter_bringing;
-use gw_asking::{Case, Notes, ask_label};
+use gw_asking::{Notes, Run, ask_label};
 use gw_expr::{Expr, Halt, Node, Stop};
 use gw_meaning::{Change, Destination, Move, StatementId};
 use gw_nums::Val;
@@ -22,7 +22,7 @@ pub fn decide_split(
     copies: Option<&Expr>,
     label: Option<&Expr>,
 ) -> Result<Move, Halt>
-    ensures { Decides context.entry.case.version.now context.entry.case.seed
+    ensures { Decides context.entry.run.version.now context.entry.run.seed
         (split_prog context.entry.state.now context.entry.asker.now id (option_copied copies.entry)
         (option_copied label.entry)) result notes.old notes.new }
 {
@@ -38,7 +38,7 @@ fn split_value(
     label: Option<&Expr>,
     copies: Val,
 ) -> Result<Move, Halt>
-    ensures { Decides context.entry.case.version.now context.entry.case.seed
+    ensures { Decides context.entry.run.version.now context.entry.run.seed
         (split_value context.entry.state.now id (option_copied label.entry) copies) result notes.old notes.new }
 {
     if copies.is_negative() {
@@ -48,7 +48,7 @@ fn split_value(
     if is_too_full(context.state, count) {
         return Err(Halt::stop(Stop::TooManyTransactions));
     }
-    split_count(context.case, notes, id, label, count)
+    split_count(context.run, notes, id, label, count)
 }
 
 // Whether so many more may not live.
@@ -62,13 +62,13 @@ fn is_too_full(state: &State, count: u64) -> bool
 // A label is looked up only where a copy goes there.
 #[inline(always)]
 fn split_count(
-    case: Case,
+    run: Run,
     notes: &mut Notes,
     id: StatementId,
     label: Option<&Expr>,
     count: u64,
 ) -> Result<Move, Halt>
-    ensures { Decides case.entry.version.now case.entry.seed
+    ensures { Decides run.entry.version.now run.entry.seed
         (split_count id (option_copied label.entry) count) result notes.old notes.new }
 {
     if count == 0 {
@@ -79,7 +79,7 @@ fn split_count(
     };
     match expr.node() {
         Node::Label(name) => {
-            let to = ask_label(case.version, notes, name)?;
+            let to = ask_label(run.version, notes, name)?;
             split_to(id, count, to)
         }
         _ => Ok(split_into(id, count, Destination::none())),

@@ -5,12 +5,12 @@ ghost use Rattle.gw_meaning.specs.Step.{enter_or_wait, enter_storage, enter_prog
 ghost use Rattle.gw_asking.specs.Deciding.{Decides, Comes};
 
 use crate::entering::enter_doing;
+use crate::grants::{all_granted, beside, grants_of};
 use crate::queueing::is_too_many;
-use crate::shares::{all_shares, beside, shares_of};
-use gw_asking::{Case, Notes, ask_fits};
+use gw_asking::{Notes, Run, ask_fits};
 use gw_entities::Storage;
 use gw_expr::{Expr, Halt, Node, Row, Stop};
-use gw_meaning::{Deed, Move, StatementId, StorageDeed};
+use gw_meaning::{Move, StatementId, StorageUpdate, Update};
 use gw_names::{Key, StorageName};
 use gw_values::{Context, units_of};
 
@@ -24,7 +24,7 @@ pub fn decide_enter(
     storage: Option<&Expr>,
     units: Option<&Expr>,
 ) -> Result<Move, Halt>
-    ensures { Decides context.entry.case.version.now context.entry.case.seed
+    ensures { Decides context.entry.run.version.now context.entry.run.seed
         (enter_prog context.entry.state.now context.entry.asker.now id (option_copied storage.entry)
         (option_copied units.entry)) result notes.old notes.new }
 {
@@ -47,14 +47,14 @@ fn enter_defined(
     name: &StorageName,
     units: Option<&Expr>,
 ) -> Result<Move, Halt>
-    ensures { Decides context.entry.case.version.now context.entry.case.seed
+    ensures { Decides context.entry.run.version.now context.entry.run.seed
         (enter_prog context.entry.state.now context.entry.asker.now id (Some (Defined name.now))
         (option_copied units.entry)) result notes.old notes.new }
 {
     let units = units_of(context, notes, units)?;
-    let large = ask_fits(context.case.version, notes, name.name(), u64::from(units))?;
+    let large = ask_fits(context.run.version, notes, name.name(), u64::from(units))?;
     let storage = context.state.entities().storage(name.key());
-    enter_storage(context.case, notes, id, name, storage, units, large)
+    enter_storage(context.run, notes, id, name, storage, units, large)
 }
 
 /// LEAVE: units of a storage are given back, and those of its delay chain whose units fit by then are let in, from the
@@ -67,7 +67,7 @@ pub fn decide_leave(
     storage: Option<&Expr>,
     units: Option<&Expr>,
 ) -> Result<Move, Halt>
-    ensures { Decides context.entry.case.version.now context.entry.case.seed
+    ensures { Decides context.entry.run.version.now context.entry.run.seed
         (leave_prog context.entry.state.now context.entry.asker.now id (option_copied storage.entry)
         (option_copied units.entry)) result notes.old notes.new }
 {
@@ -89,7 +89,7 @@ fn leave_defined(
     name: &StorageName,
     units: Option<&Expr>,
 ) -> Result<Move, Halt>
-    ensures { Decides context.entry.case.version.now context.entry.case.seed
+    ensures { Decides context.entry.run.version.now context.entry.run.seed
         (leave_prog context.entry.state.now context.entry.asker.now id (Some (Defined name.now))
         (option_copied units.entry)) result notes.old notes.new }
 {
@@ -108,7 +108,7 @@ fn leave_units(
     storage: Storage,
     units: u64,
 ) -> Result<Move, Halt>
-    ensures { Decides context.entry.case.version.now context.entry.case.seed
+    ensures { Decides context.entry.run.version.now context.entry.run.seed
         (leave_units context.entry.state.now id name.now storage units) result notes.old notes.new }
 {
     let content = storage.level().content();
@@ -116,14 +116,14 @@ fn leave_units(
         return Err(Halt::stop(Stop::LeaveTooMany));
     }
     let chain = context.state.delays().chain(name.key());
-    let shares = shares_of(context.case, notes, name.name(), chain, content - units)?;
-    leave_for(id, name.key().clone()?, storage, units, shares)
+    let grants = grants_of(context.run, notes, name.name(), chain, content - units)?;
+    leave_for(id, name.key().clone()?, storage, units, grants)
 }
 
 // The units are more than the storage has, or it is asked whether they fit beside those in use.
 #[inline(always)]
 fn enter_storage(
-    case: Case,
+    run: Run,
     notes: &mut Notes,
     id: StatementId,
     name: &StorageName,
@@ -131,14 +131,14 @@ fn enter_storage(
     units: u32,
     large: bool,
 ) -> Result<Move, Halt>
-    ensures { Decides case.entry.version.now case.entry.seed
+    ensures { Decides run.entry.version.now run.entry.seed
         (enter_storage id name.now storage units large) result notes.old notes.new }
 {
     if !large {
         return Err(Halt::stop(Stop::TooManyUnits));
     }
     let wanted = beside(u64::from(units), storage.level().content());
-    let fits = ask_fits(case.version, notes, name.name(), wanted)?;
+    let fits = ask_fits(run.version, notes, name.name(), wanted)?;
     enter_or_wait(id, name.key().clone()?, storage, units, fits)
 }
 
@@ -160,26 +160,30 @@ fn enter_or_wait(
     if is_too_many(storage.entries().saturating_add(units)) {
         return Err(Halt::stop(Stop::TooManyUnits));
     }
-    Ok(enter_doing(id, key, Deed::Storage(StorageDeed::Enter { units })))
+    Ok(enter_doing(id, key, Update::Storage(StorageUpdate::Enter { units })))
 }
 
-// Units are given back, and those who have a share are let in, unless a count would be too great.
+// Units are given back, and those who have a grant are let in, unless a count would be too great.
 #[inline(always)]
 fn leave_for(
     id: StatementId,
     key: Key,
     storage: Storage,
     units: u64,
-    shares: Row<Option<u64>>,
+    grants: Row<Option<u64>>,
 ) -> Result<Move, Halt>
-    ensures { Comes (leave_for id key storage units shares) result }
+    ensures { Comes (leave_for id key storage units grants) result }
 {
     if is_too_many(
         storage
             .entries()
-            .saturating_add(all_shares(shares.as_slice())),
+            .saturating_add(all_granted(grants.as_slice())),
     ) {
         return Err(Halt::stop(Stop::TooManyUnits));
     }
-    Ok(enter_doing(id, key, Deed::Storage(StorageDeed::Leave { units, shares })))
+    Ok(enter_doing(
+        id,
+        key,
+        Update::Storage(StorageUpdate::Leave { units, grants }),
+    ))
 }

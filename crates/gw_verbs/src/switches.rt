@@ -6,7 +6,7 @@ ghost use Rattle.gw_asking.specs.Deciding.{Decides};
 use crate::entering::enter_doing;
 use gw_asking::Notes;
 use gw_expr::{Expr, Halt, Stop};
-use gw_meaning::{Auxiliary, Deed, Move, StatementId, Switching};
+use gw_meaning::{Auxiliary, Move, StatementId, Switching, Update};
 use gw_values::{Context, key_of};
 
 /// LOGIC: a switch is set, reset or inverted, as the operator says.
@@ -18,7 +18,7 @@ pub fn decide_logic(
     operator: Auxiliary,
     entity: Option<&Expr>,
 ) -> Result<Move, Halt>
-    ensures { Decides context.entry.case.version.now context.entry.case.seed
+    ensures { Decides context.entry.run.version.now context.entry.run.seed
         (logic_prog context.entry.state.now context.entry.asker.now id operator (option_copied entity.entry))
         result notes.old notes.new }
 {
@@ -27,7 +27,7 @@ pub fn decide_logic(
     };
     let key = key_of(context, notes, entity)?;
     let set = switched(switching, context.state.entities().is_set(&key));
-    Ok(enter_doing(id, key, Deed::Switch { set }))
+    Ok(enter_doing(id, key, Update::Switch { set }))
 }
 
 // What a LOGIC makes of a switch.

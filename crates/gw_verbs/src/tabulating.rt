@@ -7,7 +7,7 @@ ghost use Rattle.gw_asking.specs.Deciding.{Decides};
 use crate::entering::enter_doing;
 use gw_asking::{Notes, ask_argument};
 use gw_expr::{Expr, Halt, Node, Stop};
-use gw_meaning::{Deed, Move, StatementId};
+use gw_meaning::{Move, StatementId, Update};
 use gw_names::{Key, Name};
 use gw_values::{Context, value_there};
 
@@ -19,7 +19,7 @@ pub fn decide_tabulate(
     id: StatementId,
     table: Option<&Expr>,
 ) -> Result<Move, Halt>
-    ensures { Decides context.entry.case.version.now context.entry.case.seed
+    ensures { Decides context.entry.run.version.now context.entry.run.seed
         (tabulate_prog context.entry.state.now context.entry.asker.now id (option_copied table.entry))
         result notes.old notes.new }
 {
@@ -28,7 +28,7 @@ pub fn decide_tabulate(
     };
     match expr.node() {
         Node::Table(name) => {
-            let argument = ask_argument(context.case.version, notes, name)?;
+            let argument = ask_argument(context.run.version, notes, name)?;
             tabulate_with(context, notes, id, name, argument)
         }
         _ => Err(Halt::stop(Stop::Range)),
@@ -43,11 +43,11 @@ fn tabulate_with(
     name: &Name,
     argument: Option<&Expr>,
 ) -> Result<Move, Halt>
-    ensures { Decides context.entry.case.version.now context.entry.case.seed
+    ensures { Decides context.entry.run.version.now context.entry.run.seed
         (tabulate_with context.entry.state.now context.entry.asker.now id (keys.Defined name.now)
         (option_copied argument.entry)) result notes.old notes.new }
 {
     let value = value_there(context, notes, argument)?;
     let key = Key::Defined(name.clone()?);
-    Ok(enter_doing(id, key, Deed::Table { value }))
+    Ok(enter_doing(id, key, Update::Table { value }))
 }

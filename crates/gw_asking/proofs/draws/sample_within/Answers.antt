@@ -12,8 +12,8 @@ drawn mean (suc n) h = refl
 
 pub returns-in-Some : goal.returns-in-Some
 returns-in-Some c =
-    let t = c.args.case.version.now in
-    let seed = c.args.case.seed in
+    let t = c.args.run.version.now in
+    let seed = c.args.run.seed in
     let rest : ℕ → Eval ℤ = λ x. in_range (spread c.args.mean c.args.range x) in
     let some : (c.args.range == 0) ≡ false = search rules in
     let here : rest c.in_ok-number.number ≡ gives c.in-Some.time = search rules in
@@ -23,8 +23,8 @@ returns-in-Some c =
 
 pub returns-in-None : goal.returns-in-None
 returns-in-None c =
-    let t = c.args.case.version.now in
-    let seed = c.args.case.seed in
+    let t = c.args.run.version.now in
+    let seed = c.args.run.seed in
     let rest : ℕ → Eval ℤ = λ x. in_range (spread c.args.mean c.args.range x) in
     let some : (c.args.range == 0) ≡ false = search rules in
     let here : rest c.in_ok-number.number ≡ ends_with (ends.Error Range) = search rules in

@@ -2,7 +2,7 @@ use Rattle.std.proofs.Common.{◌≡◌, Some, sym, ap, ◌∙◌}
 use Rattle.std.specs.List.{find}
 use Rattle.gw_names.specs.declared.key.Key.{Key}
 use Rattle.gw_names.specs.Keys.{key_eq}
-use Rattle.gw_entities.proofs.ComingLaws.{key_same, find_passes}
+use Rattle.gw_entities.proofs.QueueArrivalLaws.{key_same, find_passes}
 use Rattle.gw_entities.proofs.key_table.place_by_hash.Goals as goal
 
 pub returns-in-Some-clause-there : goal.returns-in-Some-clause-there

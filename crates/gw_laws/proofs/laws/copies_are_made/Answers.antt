@@ -1,5 +1,5 @@
 use Rattle.gw_laws.proofs.CopyLaws.{the_parent_stays_active, each_copy_has_a_number, copies_are_alike, copies_line_up_in_order, copies_are_no_entries, copies_stand_in_the_block}
-use Rattle.gw_laws.proofs.CopyComings.{copies_came_to_no_queue}
+use Rattle.gw_laws.proofs.CopyQueueArrivals.{copies_came_to_no_queue}
 use Rattle.gw_laws.proofs.InheritLaws.{copies_inherit_parameters}
 use Rattle.gw_laws.proofs.laws.copies_are_made.Goals as goal
 

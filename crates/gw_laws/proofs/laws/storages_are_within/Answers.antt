@@ -1,5 +1,5 @@
 use Rattle.gw_laws.proofs.StorageLaws.{storages_are_within}
-use Rattle.gw_laws.proofs.ShareLaws.{nobody_waits_at_room}
+use Rattle.gw_laws.proofs.GrantLaws.{nobody_waits_at_room}
 use Rattle.gw_laws.proofs.laws.storages_are_within.Goals as goal
 
 pub returns : goal.returns

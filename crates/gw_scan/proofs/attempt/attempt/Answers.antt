@@ -7,7 +7,7 @@ use Rattle.gw_scan.proofs.attempt.attempt.Goals as goal
 
 pub returns-in-Some-3 : goal.returns-in-Some-3
 returns-in-Some-3 g c =
-    let t = c.args.case.version.now in
+    let t = c.args.run.version.now in
     let s = g.R.Course.machine c.args.course.now in
     let x = c.in-Some.x.now in
     let id = c.in-Some-2.id in
@@ -16,4 +16,4 @@ returns-in-Some-3 g c =
     let there : block_at t id ≡ Some b = search rules in
     let tried : Tries t x x.destination (Some id) c.args.notes.now c.ask_next.new.notes = search rules in
     let asked : Asks c.ask_next.new.notes (items.Block id) c.ask_block.new.notes = search rules in
-    goes_tried t c.args.case.seed g.R.Course.makes s x id b _ _ _ _ _ _ _ active tried there asked c.meet.ensures
+    goes_tried t c.args.run.seed g.R.Course.makes s x id b _ _ _ _ _ _ _ active tried there asked c.meet.ensures

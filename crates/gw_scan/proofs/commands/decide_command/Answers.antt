@@ -7,8 +7,8 @@ use Rattle.gw_scan.proofs.commands.decide_command.Goals as goal
 
 pub returns : goal.returns
 returns c =
-    let t = c.args.case.version.now in
-    let seed = c.args.case.seed in
+    let t = c.args.run.version.now in
+    let seed = c.args.run.seed in
     let s = c.args.state.now in
     let done : c.commands.result ≡ s.commands = c.commands.ensures in
     let i : c.saturating_add-next.result ≡ raised s.commands = c.saturating_add-next.ensures ∙ ap raised done in

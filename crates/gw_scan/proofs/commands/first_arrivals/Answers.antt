@@ -6,7 +6,7 @@ use Rattle.gw_scan.proofs.commands.first_arrivals.Goals as goal
 
 pub returns : goal.returns
 returns c =
-    let case = c.args.case in
-    decides_asked case.version.now case.seed items.Generates (λ ids. arrivals_prog c.args.state.now (for_none c.args.count) ids []) _ _ _ _
+    let run = c.args.run in
+    decides_asked run.version.now run.seed items.Generates (λ ids. arrivals_prog c.args.state.now (for_none c.args.count) ids []) _ _ _ _
     c.in_ok-ids.ensures.ok
     (rw (← c.in_ok-ids.ensures.answer, ← c.for_none.ensures) c.arrivals.ensures)

@@ -9,8 +9,8 @@ use Rattle.gw_scan.proofs.commands.start.Goals as goal
 
 pub returns-in_err-arrivals : goal.returns-in_err-arrivals
 returns-in_err-arrivals c =
-    let t = c.args.case.version.now in
-    let seed = c.args.case.seed in
+    let t = c.args.run.version.now in
+    let seed = c.args.run.seed in
     let s = c.args.state.now in
     let unprimed : s.primed ≡ false = sym c.is_primed.ensures ∙ c.if-is_primed.false in
     let rest : List Arrival → Eval Move = λ first. gives (moves.Start c.args.count first) in
@@ -18,8 +18,8 @@ returns-in_err-arrivals c =
 
 pub returns : goal.returns
 returns c =
-    let t = c.args.case.version.now in
-    let seed = c.args.case.seed in
+    let t = c.args.run.version.now in
+    let seed = c.args.run.seed in
     let s = c.args.state.now in
     let unprimed : s.primed ≡ false = sym c.is_primed.ensures ∙ c.if-is_primed.false in
     let rest : List Arrival → Eval Move = λ first. gives (moves.Start c.args.count first) in

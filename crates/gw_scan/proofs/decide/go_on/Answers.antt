@@ -7,8 +7,8 @@ use Rattle.gw_scan.proofs.decide.go_on.Goals as goal
 
 pub hand_on-requires : goal.hand_on-requires
 hand_on-requires g c =
-    let t = c.args.case.version.now in
-    let seed = c.args.case.seed in
+    let t = c.args.run.version.now in
+    let seed = c.args.run.seed in
     let s = g.C.Course.machine c.args.course.now in
     let idle : s.remaining ≡ 0 = search rules in
     let decided = subst (λ (m : Machine). Decides t seed (move_prog m 0) c.decide_command.result c.args.notes.now c.decide_command.new.notes) c.state-then-remaining-eq0.ensures c.decide_command.ensures in

@@ -18,8 +18,8 @@ use Rattle.gw_values.proofs.arriving.arrival.Goals.{in-Some+in_ok-limit+else-is_
 
 pub returns : goal.returns
 returns c =
-    let t = c.args.context.case.version.now in
-    let seed = c.args.context.case.seed in
+    let t = c.args.context.run.version.now in
+    let seed = c.args.context.run.seed in
     let s = c.args.context.state.now in
     elim c.match-limit.branch [
       | in-Some+in_ok-limit+else-is_negative+else-magnitude-count w ↦
@@ -43,8 +43,8 @@ returns c =
 pub returns-in_err-limit : goal.returns-in_err-limit
 returns-in_err-limit c =
     let p = err_from_is_err_and c.from_residual.result c.from_residual.ensures.1 in
-    let t = c.args.context.case.version.now in
-    let seed = c.args.context.case.seed in
+    let t = c.args.context.run.version.now in
+    let seed = c.args.context.run.seed in
     let s = c.args.context.state.now in
     let made = (count_at s.counts c.args.id).made in
     let mean = option_copied c.args.mean in
@@ -58,8 +58,8 @@ returns-in_err-limit c =
 
 pub returns-then-is_negative : goal.returns-then-is_negative
 returns-then-is_negative c =
-    let t = c.args.context.case.version.now in
-    let seed = c.args.context.case.seed in
+    let t = c.args.context.run.version.now in
+    let seed = c.args.context.run.seed in
     let s = c.args.context.state.now in
     let made = (count_at s.counts c.args.id).made in
     let mean = option_copied c.args.mean in
@@ -78,8 +78,8 @@ returns-then-is_negative c =
 
 pub returns-then-magnitude-count : goal.returns-then-magnitude-count
 returns-then-magnitude-count c =
-    let t = c.args.context.case.version.now in
-    let seed = c.args.context.case.seed in
+    let t = c.args.context.run.version.now in
+    let seed = c.args.context.run.seed in
     let s = c.args.context.state.now in
     let made = (count_at s.counts c.args.id).made in
     let mean = option_copied c.args.mean in

@@ -9,15 +9,15 @@ use Rattle.gw_values.proofs.arriving.arrival_in_time.Goals as goal
 pub returns-in_err-time : goal.returns-in_err-time
 returns-in_err-time c =
     let p = err_from_is_err_and c.from_residual.result c.from_residual.ensures.1 in
-    decides_exit c.args.context.case.version.now c.args.context.case.seed
+    decides_exit c.args.context.run.version.now c.args.context.run.seed
     (time_prog c.args.context.state.now c.args.context.asker.now (option_copied c.args.mean) (option_copied c.args.range)) _ _ _ _ c.in_err-time.field-0.0 _ _ refl p.1 p.2
     c.in_err-time.ensures
 
 pub returns-in_err-priority : goal.returns-in_err-priority
 returns-in_err-priority c =
     let p = err_from_is_err_and c.from_residual-in_err-priority.result c.from_residual-in_err-priority.ensures.1 in
-    let t = c.args.context.case.version.now in
-    let seed = c.args.context.case.seed in
+    let t = c.args.context.run.version.now in
+    let seed = c.args.context.run.seed in
     let s = c.args.context.state.now in
     let priority = value_or_zero s c.args.context.asker.now (option_copied c.args.priority) in
     let rest : ℤ → Eval (Option Arrival) = λ t. priority ~> (λ p. arrival_at s c.args.id t p) in
@@ -27,8 +27,8 @@ returns-in_err-priority c =
 
 pub returns : goal.returns
 returns c =
-    let t = c.args.context.case.version.now in
-    let seed = c.args.context.case.seed in
+    let t = c.args.context.run.version.now in
+    let seed = c.args.context.run.seed in
     let s = c.args.context.state.now in
     let priority = value_or_zero s c.args.context.asker.now (option_copied c.args.priority) in
     let rest : ℤ → Eval (Option Arrival) = λ t. priority ~> (λ p. arrival_at s c.args.id t p) in

@@ -21,7 +21,7 @@ returns-in_err-arrival c =
     let whole : arrivals_prog s c.args.context.asker.now (drop i ids) made ≡
     (prime_prog s c.args.context.asker.now id ~> (λ a. arrivals_prog s c.args.context.asker.now (drop (i + 1) ids) (with_arrival a made))) =
     ap (λ ps. arrivals_prog s c.args.context.asker.now ps made) (item_drop ids i id h c.id-item.is) in
-    c.loop-id.invariant c.from_residual.result _ (decides_exit c.args.context.case.version.now c.args.context.case.seed (prime_prog s c.args.context.asker.now id)
+    c.loop-id.invariant c.from_residual.result _ (decides_exit c.args.context.run.version.now c.args.context.run.seed (prime_prog s c.args.context.asker.now id)
     (λ a. arrivals_prog s c.args.context.asker.now (drop (i + 1) ids) (with_arrival a made)) _ _ _ c.in_err-arrival.field-0.0 _ _ whole p.1 p.2
     c.in_err-arrival.ensures)
 
@@ -37,7 +37,7 @@ loop-id-preserved c = λ r all rest.
     (prime_prog s c.args.context.asker.now id ~> (λ a. arrivals_prog s c.args.context.asker.now (drop (i + 1) ids) (with_arrival a made))) =
     ap (λ ps. arrivals_prog s c.args.context.asker.now ps made) (item_drop ids i id h c.id-item.is) in
     let put : with_arrival c.in_ok-arrival.arrival made ≡ c.put_if.new.arrivals.items = sym c.in_ok-put_if.ensures in
-    c.loop-id.invariant r all (decides_whole c.args.context.case.version.now c.args.context.case.seed (prime_prog s c.args.context.asker.now id)
+    c.loop-id.invariant r all (decides_whole c.args.context.run.version.now c.args.context.run.seed (prime_prog s c.args.context.asker.now id)
     (λ a. arrivals_prog s c.args.context.asker.now (drop (i + 1) ids) (with_arrival a made))
     _ c.in_ok-arrival.arrival r c.loop-id.notes c.prime.new.notes all whole c.in_ok-arrival.ensures (rw put rest))
 
@@ -46,12 +46,12 @@ returns c =
     let last : c.loop-id.id-index ≡ length c.args.ids.now = omega arith in
     let end : drop c.loop-id.id-index c.args.ids.now ≡ [] = rw last (drop-length c.args.ids.now) in
     rw c.from_vec.ensures (c.loop-id.invariant (Ok c.loop-id.arrivals.items) c.loop-id.notes
-    (rw end (decides_gives c.args.context.case.version.now c.args.context.case.seed c.loop-id.arrivals.items c.loop-id.notes)))
+    (rw end (decides_gives c.args.context.run.version.now c.args.context.run.seed c.loop-id.arrivals.items c.loop-id.notes)))
 
 pub returns-in_err-put_if : goal.returns-in_err-put_if
 returns-in_err-put_if c =
-    let t = c.args.context.case.version.now in
-    let seed = c.args.context.case.seed in
+    let t = c.args.context.run.version.now in
+    let seed = c.args.context.run.seed in
     let p = err_from_is_err_and c.from_residual-in_err-put_if.result c.from_residual-in_err-put_if.ensures.1 in
     let kept = c.loop-id.invariant (Err halts.Memory) c.prime.new.notes (reads_keep c.loop-id.notes c.prime.new.notes _ c.in_ok-arrival.ensures.1) in
     decides_memory t seed (arrivals_prog c.args.context.state.now c.args.context.asker.now c.args.ids.now []) _ _ c.args.notes.now c.prime.new.notes p.1 p.2 kept

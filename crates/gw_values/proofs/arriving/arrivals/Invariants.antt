@@ -10,5 +10,5 @@ use Rattle.gw_values.proofs.arriving.arrivals.Given as goal
 abbrev pub invariant-loop-id : goal.invariant-loop-id
 invariant-loop-id l =
     (r : Result (List Arrival) Halt) (all : Noted) →
-    Decides l.context.case.version.now l.context.case.seed (arrivals_prog l.context.state.now l.context.asker.now (drop l.id-index l.ids) l.arrivals.items) r l.notes all →
-    Decides l.context.case.version.now l.context.case.seed (arrivals_prog l.context.state.now l.context.asker.now l.ids []) r l.fn.notes all
+    Decides l.context.run.version.now l.context.run.seed (arrivals_prog l.context.state.now l.context.asker.now (drop l.id-index l.ids) l.arrivals.items) r l.notes all →
+    Decides l.context.run.version.now l.context.run.seed (arrivals_prog l.context.state.now l.context.asker.now l.ids []) r l.fn.notes all

@@ -5,6 +5,6 @@ use Rattle.gw_values.proofs.arriving.prime.Goals as goal
 
 pub returns : goal.returns
 returns c =
-    let case = c.args.context.case in
-    decides_asked case.version.now case.seed (items.Block c.args.id) (first_arrival c.args.context.state.now c.args.context.asker.now c.args.id) _ _ _ _ c.in_ok-block.ensures.ok
+    let run = c.args.context.run in
+    decides_asked run.version.now run.seed (items.Block c.args.id) (first_arrival c.args.context.state.now c.args.context.asker.now c.args.id) _ _ _ _ c.in_ok-block.ensures.ok
     (rw (← c.in_ok-block.ensures.answer) c.first_arrival.ensures)

@@ -6,8 +6,8 @@ use Rattle.gw_values.proofs.attributes.of_entity.Goals as goal
 
 pub returns : goal.returns
 returns c =
-    let t = c.args.context.case.version.now in
-    let seed = c.args.context.case.seed in
+    let t = c.args.context.run.version.now in
+    let seed = c.args.context.run.seed in
     let first = subject_prog c.args.of.now in
     let rest : Key → Eval ℤ = λ key. entity_value c.args.context.state.now c.args.class key in
     decides_then t seed first rest c.in_ok-key.key _ _ _ _ c.in_ok-key.ensures

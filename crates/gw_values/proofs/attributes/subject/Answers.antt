@@ -5,5 +5,5 @@ use Rattle.gw_values.proofs.attributes.subject.Goals as goal
 
 pub returns-in-Number : goal.returns-in-Number
 returns-in-Number c =
-    rw c.in-Number.is (decides_comes c.args.case.version.now c.args.case.seed (subject_prog (subjects.Number c.in-Number.number)) c.key_of_number.result
+    rw c.in-Number.is (decides_comes c.args.run.version.now c.args.run.seed (subject_prog (subjects.Number c.in-Number.number)) c.key_of_number.result
     c.args.notes.now c.key_of_number.ensures)

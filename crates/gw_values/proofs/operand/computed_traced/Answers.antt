@@ -12,8 +12,8 @@ use Rattle.gw_values.proofs.operand.computed_traced.Goals as goal
 
 pub returns-in_err-number : goal.returns-in_err-number
 returns-in_err-number c =
-    let t = c.args.context.case.version.now in
-    let seed = c.args.context.case.seed in
+    let t = c.args.context.run.version.now in
+    let seed = c.args.context.run.seed in
     let s = c.args.context.state.now in
     let q = c.args.context.asker.now in
     let first = traced s q c.args.read.now.items (value_of c.args.operand.now) in
@@ -23,8 +23,8 @@ returns-in_err-number c =
 
 pub returns : goal.returns
 returns c =
-    let t = c.args.context.case.version.now in
-    let seed = c.args.context.case.seed in
+    let t = c.args.context.run.version.now in
+    let seed = c.args.context.run.seed in
     let s = c.args.context.state.now in
     let q = c.args.context.asker.now in
     let first = traced s q c.args.read.now.items (value_of c.args.operand.now) in

@@ -29,7 +29,7 @@ returns-in_default c =
     let Same : Term → Type 0 = λ e. entity_traced s q (Some e) ≡ computed s q [] e in
     let whole = subst Same c.node.ensures (of_number s q c.node.result.now c.in_default.not-Named) in
     let read = c.computed_traced.new.read.items in
-    let F : Eval (Key × List Watched) → Type 0 = λ p. Decides c.args.context.case.version.now c.args.context.case.seed p (with_read c.computed_traced.result read)
+    let F : Eval (Key × List Watched) → Type 0 = λ p. Decides c.args.context.run.version.now c.args.context.run.seed p (with_read c.computed_traced.result read)
     c.args.notes.now c.computed_traced.new.notes in
     let G : List Watched → Type 0 = λ list. F (computed s q list c.args.operand.now) in
     subst F (sym whole) (subst G c.requires c.computed_traced.ensures)

@@ -11,8 +11,8 @@ use Rattle.gw_values.proofs.operand.units_of.Goals as goal
 pub returns-in_err-units : goal.returns-in_err-units
 returns-in_err-units c =
     let p = err_from_is_err_and c.from_residual.result c.from_residual.ensures.1 in
-    let t = c.args.context.case.version.now in
-    let seed = c.args.context.case.seed in
+    let t = c.args.context.run.version.now in
+    let seed = c.args.context.run.seed in
     let s = c.args.context.state.now in
     let first = value_prog s c.args.context.asker.now c.in-Some.expr.now in
     let rest : ℤ → Eval ℕ = λ n. stops_if (is_below n (pos 1)) BadCount (gives (magnitude n)) in
@@ -21,8 +21,8 @@ returns-in_err-units c =
 
 pub returns-then-get-lt1 : goal.returns-then-get-lt1
 returns-then-get-lt1 c =
-    let t = c.args.context.case.version.now in
-    let seed = c.args.context.case.seed in
+    let t = c.args.context.run.version.now in
+    let seed = c.args.context.run.seed in
     let s = c.args.context.state.now in
     let first = value_prog s c.args.context.asker.now c.in-Some.expr.now in
     let rest : ℤ → Eval ℕ = λ n. stops_if (is_below n (pos 1)) BadCount (gives (magnitude n)) in
@@ -36,8 +36,8 @@ returns-then-get-lt1 c =
 
 pub returns : goal.returns
 returns c =
-    let t = c.args.context.case.version.now in
-    let seed = c.args.context.case.seed in
+    let t = c.args.context.run.version.now in
+    let seed = c.args.context.run.seed in
     let s = c.args.context.state.now in
     let first = value_prog s c.args.context.asker.now c.in-Some.expr.now in
     let rest : ℤ → Eval ℕ = λ n. stops_if (is_below n (pos 1)) BadCount (gives (magnitude n)) in

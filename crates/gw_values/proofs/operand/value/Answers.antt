@@ -5,4 +5,4 @@ pub returns-in-Some : goal.returns-in-Some
 returns-in-Some c =
     let context = c.args.context in
     rw c.in-Some.ensures
-    (constant_decides context.case.version.now context.case.seed context.state.now context.asker.now c.in-Some.value c.args.notes.now)
+    (constant_decides context.run.version.now context.run.seed context.state.now context.asker.now c.in-Some.value c.args.notes.now)

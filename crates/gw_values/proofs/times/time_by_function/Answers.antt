@@ -10,8 +10,8 @@ use Rattle.gw_values.proofs.times.time_by_function.Goals as goal
 pub returns-in_err-mean : goal.returns-in_err-mean
 returns-in_err-mean c =
     let p = err_from_is_err_and c.from_residual.result c.from_residual.ensures.1 in
-    let t = c.args.context.case.version.now in
-    let seed = c.args.context.case.seed in
+    let t = c.args.context.run.version.now in
+    let seed = c.args.context.run.seed in
     let s = c.args.context.state.now in
     let q = c.args.context.asker.now in
     let by = evaluated s q (function_of c.args.of.now) in
@@ -21,8 +21,8 @@ returns-in_err-mean c =
 pub returns-in_err-by : goal.returns-in_err-by
 returns-in_err-by c =
     let p = err_from_is_err_and c.from_residual-in_err-by.result c.from_residual-in_err-by.ensures.1 in
-    let t = c.args.context.case.version.now in
-    let seed = c.args.context.case.seed in
+    let t = c.args.context.run.version.now in
+    let seed = c.args.context.run.seed in
     let s = c.args.context.state.now in
     let q = c.args.context.asker.now in
     let by = evaluated s q (function_of c.args.of.now) in
@@ -33,8 +33,8 @@ returns-in_err-by c =
 
 pub returns : goal.returns
 returns c =
-    let t = c.args.context.case.version.now in
-    let seed = c.args.context.case.seed in
+    let t = c.args.context.run.version.now in
+    let seed = c.args.context.run.seed in
     let s = c.args.context.state.now in
     let q = c.args.context.asker.now in
     let by = evaluated s q (function_of c.args.of.now) in

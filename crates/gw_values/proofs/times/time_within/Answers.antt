@@ -8,8 +8,8 @@ use Rattle.gw_values.proofs.times.time_within.Goals as goal
 pub returns-in_err-range : goal.returns-in_err-range
 returns-in_err-range c =
     let p = err_from_is_err_and c.from_residual-in_err-range.result c.from_residual-in_err-range.ensures.1 in
-    let t = c.args.context.case.version.now in
-    let seed = c.args.context.case.seed in
+    let t = c.args.context.run.version.now in
+    let seed = c.args.context.run.seed in
     let s = c.args.context.state.now in
     let range = value_or_zero s c.args.context.asker.now (option_copied c.args.range) in
     let rest : ℤ → Eval ℤ = λ m. range ~> (λ r. sample m r) in
@@ -18,8 +18,8 @@ returns-in_err-range c =
 
 pub returns : goal.returns
 returns c =
-    let t = c.args.context.case.version.now in
-    let seed = c.args.context.case.seed in
+    let t = c.args.context.run.version.now in
+    let seed = c.args.context.run.seed in
     let s = c.args.context.state.now in
     let range = value_or_zero s c.args.context.asker.now (option_copied c.args.range) in
     let rest : ℤ → Eval ℤ = λ m. range ~> (λ r. sample m r) in
@@ -29,8 +29,8 @@ returns c =
 pub returns-in_err-mean : goal.returns-in_err-mean
 returns-in_err-mean c =
     let p = err_from_is_err_and c.from_residual.result c.from_residual.ensures.1 in
-    let t = c.args.context.case.version.now in
-    let seed = c.args.context.case.seed in
+    let t = c.args.context.run.version.now in
+    let seed = c.args.context.run.seed in
     let s = c.args.context.state.now in
     let first = value_or_zero s c.args.context.asker.now (option_copied c.args.mean) in
     let rest : ℤ → Eval ℤ = λ m. value_or_zero s c.args.context.asker.now (option_copied c.args.range) ~> (λ r. sample m r) in

@@ -15,8 +15,8 @@ use Rattle.gw_verbs.proofs.fates.decide_advance.Goals as goal
 
 pub returns-in_err-time : goal.returns-in_err-time
 returns-in_err-time c =
-    let t = c.args.context.case.version.now in
-    let seed = c.args.context.case.seed in
+    let t = c.args.context.run.version.now in
+    let seed = c.args.context.run.seed in
     let s = c.args.context.state.now in
     let q = c.args.context.asker.now in
     let rest : ℤ → Eval Move = λ v. stops_if (is_negative v) NegativeTime (gives (moves.Enter c.args.id changes.Nothing (delay_of s (magnitude v)))) in
@@ -24,8 +24,8 @@ returns-in_err-time c =
 
 pub returns : goal.returns
 returns c =
-    let t = c.args.context.case.version.now in
-    let seed = c.args.context.case.seed in
+    let t = c.args.context.run.version.now in
+    let seed = c.args.context.run.seed in
     let s = c.args.context.state.now in
     let q = c.args.context.asker.now in
     let rest : ℤ → Eval Move = λ v. stops_if (is_negative v) NegativeTime (gives (moves.Enter c.args.id changes.Nothing (delay_of s (magnitude v)))) in
@@ -35,8 +35,8 @@ returns c =
 
 pub returns-then-is_negative : goal.returns-then-is_negative
 returns-then-is_negative c =
-    let t = c.args.context.case.version.now in
-    let seed = c.args.context.case.seed in
+    let t = c.args.context.run.version.now in
+    let seed = c.args.context.run.seed in
     let s = c.args.context.state.now in
     let q = c.args.context.asker.now in
     let rest : ℤ → Eval Move = λ v. stops_if (is_negative v) NegativeTime (gives (moves.Enter c.args.id changes.Nothing (delay_of s (magnitude v)))) in

@@ -11,8 +11,8 @@ returns-in-Some c = rw c.in-Some.is (c.gate_or_lead.ensures [])
 
 pub returns-in_ok-clone-in-None : goal.returns-in_ok-clone-in-None
 returns-in_ok-clone-in-None c =
-    let t = c.args.context.case.version.now in
-    let seed = c.args.context.case.seed in
+    let t = c.args.context.run.version.now in
+    let seed = c.args.context.run.seed in
     let s = c.args.context.state.now in
     let none : c.new-read.result.items ≡ [] = search rules in
     let own : c.in_ok-clone-in-None.field-0 ≡ c.args.key.now = search rules in

@@ -10,8 +10,8 @@ use Rattle.gw_verbs.proofs.gates.gate_other.Goals as goal
 
 pub returns-in_err-key-in-Some : goal.returns-in_err-key-in-Some
 returns-in_err-key-in-Some c =
-    let t = c.args.context.case.version.now in
-    let seed = c.args.context.case.seed in
+    let t = c.args.context.run.version.now in
+    let seed = c.args.context.run.seed in
     let s = c.args.context.state.now in
     let q = c.args.context.asker.now in
     let rest : Key → Eval Move = λ key. gate_at s c.args.id c.args.condition (Some c.in-Some.label.now) key [] 0 in
@@ -20,8 +20,8 @@ returns-in_err-key-in-Some c =
 
 pub returns-in_ok-key-in-Some : goal.returns-in_ok-key-in-Some
 returns-in_ok-key-in-Some c =
-    let t = c.args.context.case.version.now in
-    let seed = c.args.context.case.seed in
+    let t = c.args.context.run.version.now in
+    let seed = c.args.context.run.seed in
     let s = c.args.context.state.now in
     let q = c.args.context.asker.now in
     let rest : Key → Eval Move = λ key. gate_at s c.args.id c.args.condition (Some c.in-Some.label.now) key [] 0 in
@@ -30,8 +30,8 @@ returns-in_ok-key-in-Some c =
 
 pub returns-in_err-key-in-None : goal.returns-in_err-key-in-None
 returns-in_err-key-in-None c =
-    let t = c.args.context.case.version.now in
-    let seed = c.args.context.case.seed in
+    let t = c.args.context.run.version.now in
+    let seed = c.args.context.run.seed in
     let s = c.args.context.state.now in
     let q = c.args.context.asker.now in
     let rest : Key × List Watched → Eval Move = λ r. gate_at s c.args.id c.args.condition None r.0 r.1 0 in
@@ -40,8 +40,8 @@ returns-in_err-key-in-None c =
 
 pub returns-in_ok-key-in-None : goal.returns-in_ok-key-in-None
 returns-in_ok-key-in-None c =
-    let t = c.args.context.case.version.now in
-    let seed = c.args.context.case.seed in
+    let t = c.args.context.run.version.now in
+    let seed = c.args.context.run.seed in
     let s = c.args.context.state.now in
     let q = c.args.context.asker.now in
     let rest : Key × List Watched → Eval Move = λ r. gate_at s c.args.id c.args.condition None r.0 r.1 0 in

@@ -10,8 +10,8 @@ use Rattle.gw_verbs.proofs.gates.gate_storage.Goals as goal
 
 pub returns : goal.returns
 returns c =
-    let t = c.args.context.case.version.now in
-    let seed = c.args.context.case.seed in
+    let t = c.args.context.run.version.now in
+    let seed = c.args.context.run.seed in
     let s = c.args.context.state.now in
     let name = c.args.name.now in
     let rest : ℕ → Eval Move = λ n. gate_at s c.args.id c.args.condition (option_copied c.args.label) (keys.Defined name) [] n in

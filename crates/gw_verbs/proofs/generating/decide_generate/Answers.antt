@@ -13,8 +13,8 @@ use Rattle.gw_verbs.proofs.generating.decide_generate.Goals as goal
 
 pub returns-in_err-next : goal.returns-in_err-next
 returns-in_err-next c =
-    let t = c.args.context.case.version.now in
-    let seed = c.args.context.case.seed in
+    let t = c.args.context.run.version.now in
+    let seed = c.args.context.run.seed in
     let s = c.args.context.state.now in
     let asked = arrival_prog s c.for_none.result c.args.id (count_at s.counts c.args.id).made (option_copied c.args.mean)
     (option_copied c.args.range) (option_copied c.args.limit) (option_copied c.args.priority) in
@@ -27,8 +27,8 @@ returns-in_err-next c =
 
 pub returns : goal.returns
 returns c =
-    let t = c.args.context.case.version.now in
-    let seed = c.args.context.case.seed in
+    let t = c.args.context.run.version.now in
+    let seed = c.args.context.run.seed in
     let s = c.args.context.state.now in
     let asked = arrival_prog s c.for_none.result c.args.id (count_at s.counts c.args.id).made (option_copied c.args.mean)
     (option_copied c.args.range) (option_copied c.args.limit) (option_copied c.args.priority) in

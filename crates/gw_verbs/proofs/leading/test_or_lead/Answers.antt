@@ -8,8 +8,8 @@ use Rattle.gw_verbs.proofs.leading.test_or_lead.Goals as goal
 
 pub returns-in_err-first : goal.returns-in_err-first
 returns-in_err-first c =
-    let t = c.args.context.case.version.now in
-    let seed = c.args.context.case.seed in
+    let t = c.args.context.run.version.now in
+    let seed = c.args.context.run.seed in
     let s = c.args.context.state.now in
     let q = c.args.context.asker.now in
     let last : ℤ → ℤ → Eval Move = λ a b. test_values c.args.id c.args.relation (Some c.args.label.now) [] a b in
@@ -20,8 +20,8 @@ returns-in_err-first c =
 
 pub returns-in_err-second : goal.returns-in_err-second
 returns-in_err-second c =
-    let t = c.args.context.case.version.now in
-    let seed = c.args.context.case.seed in
+    let t = c.args.context.run.version.now in
+    let seed = c.args.context.run.seed in
     let s = c.args.context.state.now in
     let q = c.args.context.asker.now in
     let last : ℤ → ℤ → Eval Move = λ a b. test_values c.args.id c.args.relation (Some c.args.label.now) [] a b in
@@ -34,8 +34,8 @@ returns-in_err-second c =
 
 pub returns-then-holds : goal.returns-then-holds
 returns-then-holds c =
-    let t = c.args.context.case.version.now in
-    let seed = c.args.context.case.seed in
+    let t = c.args.context.run.version.now in
+    let seed = c.args.context.run.seed in
     let s = c.args.context.state.now in
     let q = c.args.context.asker.now in
     let last : ℤ → ℤ → Eval Move = λ a b. test_values c.args.id c.args.relation (Some c.args.label.now) [] a b in
@@ -52,8 +52,8 @@ returns-then-holds c =
 
 pub returns : goal.returns
 returns c =
-    let t = c.args.context.case.version.now in
-    let seed = c.args.context.case.seed in
+    let t = c.args.context.run.version.now in
+    let seed = c.args.context.run.seed in
     let s = c.args.context.state.now in
     let q = c.args.context.asker.now in
     let last : ℤ → ℤ → Eval Move = λ a b. test_values c.args.id c.args.relation (Some c.args.label.now) [] a b in

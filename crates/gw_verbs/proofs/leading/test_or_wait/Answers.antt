@@ -9,8 +9,8 @@ use Rattle.gw_verbs.proofs.leading.test_or_wait.Goals as goal
 
 pub returns-in_err-first : goal.returns-in_err-first
 returns-in_err-first c =
-    let t = c.args.context.case.version.now in
-    let seed = c.args.context.case.seed in
+    let t = c.args.context.run.version.now in
+    let seed = c.args.context.run.seed in
     let s = c.args.context.state.now in
     let q = c.args.context.asker.now in
     let last : ℤ × List Watched → ℤ × List Watched → Eval Move = λ a b. test_values c.args.id c.args.relation None b.1 a.0 b.0 in
@@ -21,8 +21,8 @@ returns-in_err-first c =
 
 pub returns-in_err-second : goal.returns-in_err-second
 returns-in_err-second c =
-    let t = c.args.context.case.version.now in
-    let seed = c.args.context.case.seed in
+    let t = c.args.context.run.version.now in
+    let seed = c.args.context.run.seed in
     let s = c.args.context.state.now in
     let q = c.args.context.asker.now in
     let last : ℤ × List Watched → ℤ × List Watched → Eval Move = λ a b. test_values c.args.id c.args.relation None b.1 a.0 b.0 in
@@ -35,8 +35,8 @@ returns-in_err-second c =
 
 pub returns : goal.returns
 returns c =
-    let t = c.args.context.case.version.now in
-    let seed = c.args.context.case.seed in
+    let t = c.args.context.run.version.now in
+    let seed = c.args.context.run.seed in
     let s = c.args.context.state.now in
     let q = c.args.context.asker.now in
     let last : ℤ × List Watched → ℤ × List Watched → Eval Move = λ a b. test_values c.args.id c.args.relation None b.1 a.0 b.0 in

@@ -12,8 +12,8 @@ use Rattle.gw_verbs.proofs.linking.decide_link.Goals as goal
 
 pub returns-in_err-key-in-Order : goal.returns-in_err-key-in-Order
 returns-in_err-key-in-Order c =
-    let t = c.args.context.case.version.now in
-    let seed = c.args.context.case.seed in
+    let t = c.args.context.run.version.now in
+    let seed = c.args.context.run.seed in
     let s = c.args.context.state.now in
     let q = c.args.context.asker.now in
     let entity = option_copied c.args.entity in
@@ -23,8 +23,8 @@ returns-in_err-key-in-Order c =
 
 pub returns-in_ok-key-in-Order : goal.returns-in_ok-key-in-Order
 returns-in_ok-key-in-Order c =
-    let t = c.args.context.case.version.now in
-    let seed = c.args.context.case.seed in
+    let t = c.args.context.run.version.now in
+    let seed = c.args.context.run.seed in
     let s = c.args.context.state.now in
     let q = c.args.context.asker.now in
     let entity = option_copied c.args.entity in

@@ -10,8 +10,8 @@ use Rattle.gw_verbs.proofs.linking.decide_unlink.Goals as goal
 
 pub returns-in_err-key : goal.returns-in_err-key
 returns-in_err-key c =
-    let t = c.args.context.case.version.now in
-    let seed = c.args.context.case.seed in
+    let t = c.args.context.run.version.now in
+    let seed = c.args.context.run.seed in
     let s = c.args.context.state.now in
     let q = c.args.context.asker.now in
     let last : Key → ℕ → Eval Move = λ key n. unlink_count c.args.id key (option_copied c.args.label) n in
@@ -20,8 +20,8 @@ returns-in_err-key c =
 
 pub returns-in_err-count : goal.returns-in_err-count
 returns-in_err-count c =
-    let t = c.args.context.case.version.now in
-    let seed = c.args.context.case.seed in
+    let t = c.args.context.run.version.now in
+    let seed = c.args.context.run.seed in
     let s = c.args.context.state.now in
     let q = c.args.context.asker.now in
     let last : Key → ℕ → Eval Move = λ key n. unlink_count c.args.id key (option_copied c.args.label) n in
@@ -35,8 +35,8 @@ returns-in_err-count c =
 
 pub returns : goal.returns
 returns c =
-    let t = c.args.context.case.version.now in
-    let seed = c.args.context.case.seed in
+    let t = c.args.context.run.version.now in
+    let seed = c.args.context.run.seed in
     let s = c.args.context.state.now in
     let q = c.args.context.asker.now in
     let last : Key → ℕ → Eval Move = λ key n. unlink_count c.args.id key (option_copied c.args.label) n in

@@ -6,8 +6,8 @@ use Rattle.gw_verbs.proofs.linking.leaving.Goals as goal
 
 pub returns-in_err-units : goal.returns-in_err-units
 returns-in_err-units c =
-    let t = c.args.context.case.version.now in
-    let seed = c.args.context.case.seed in
+    let t = c.args.context.run.version.now in
+    let seed = c.args.context.run.seed in
     let units = units_prog c.args.context.state.now c.args.context.asker.now (Some c.in-Some.expr.now) in
     let rest : ℕ → Eval ℕ = λ n. gives (min n c.args.there) in
     let count : option_copied c.args.count ≡ Some c.in-Some.expr.now = search rules in
@@ -15,8 +15,8 @@ returns-in_err-units c =
 
 pub returns : goal.returns
 returns c =
-    let t = c.args.context.case.version.now in
-    let seed = c.args.context.case.seed in
+    let t = c.args.context.run.version.now in
+    let seed = c.args.context.run.seed in
     let units = units_prog c.args.context.state.now c.args.context.asker.now (Some c.in-Some.expr.now) in
     let rest : ℕ → Eval ℕ = λ n. gives (min n c.args.there) in
     let count : option_copied c.args.count ≡ Some c.in-Some.expr.now = search rules in

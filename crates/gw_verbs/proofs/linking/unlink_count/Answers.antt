@@ -11,8 +11,8 @@ use Rattle.gw_verbs.proofs.linking.unlink_count.Goals as goal
 
 pub returns-then-count-eq0 : goal.returns-then-count-eq0
 returns-then-count-eq0 c =
-    let t = c.args.case.version.now in
-    let seed = c.args.case.seed in
+    let t = c.args.run.version.now in
+    let seed = c.args.run.seed in
     let label = option_copied c.args.label in
     let made : Comes (unlink_some c.args.id c.args.key 0 None) (Ok c.unlink_some.result) = search rules in
     decides_comes t seed (unlink_count c.args.id c.args.key label c.args.count) (Ok c.unlink_some.result) c.args.notes.now
@@ -20,8 +20,8 @@ returns-then-count-eq0 c =
 
 pub returns-in_ok-to-in-Label : goal.returns-in_ok-to-in-Label
 returns-in_ok-to-in-Label c =
-    let t = c.args.case.version.now in
-    let seed = c.args.case.seed in
+    let t = c.args.run.version.now in
+    let seed = c.args.run.seed in
     let label : option_copied c.args.label ≡ Some (Label c.in-Label.name) = search rules in
     let away = ap (λ o. unlink_count c.args.id c.args.key o c.args.count) label ∙ unlink_away c.args.id c.args.key c.in-Label.name c.args.count c.if-count-eq0.false in
     let there : Decides t seed (unlink_to c.args.id c.args.key c.args.count (label_at t c.in-Label.name)) c.unlink_to.result c.ask_label.new.notes c.ask_label.new.notes =

@@ -10,8 +10,8 @@ use Rattle.gw_verbs.proofs.parameters.decide_assign.Goals as goal
 
 pub returns-in_err-key : goal.returns-in_err-key
 returns-in_err-key c =
-    let t = c.args.context.case.version.now in
-    let seed = c.args.context.case.seed in
+    let t = c.args.context.run.version.now in
+    let seed = c.args.context.run.seed in
     let s = c.args.context.state.now in
     let q = c.args.context.asker.now in
     let rest : Key → Eval Move = λ key.
@@ -20,8 +20,8 @@ returns-in_err-key c =
 
 pub returns-in_err-value : goal.returns-in_err-value
 returns-in_err-value c =
-    let t = c.args.context.case.version.now in
-    let seed = c.args.context.case.seed in
+    let t = c.args.context.run.version.now in
+    let seed = c.args.context.run.seed in
     let s = c.args.context.state.now in
     let q = c.args.context.asker.now in
     let rest : Key → Eval Move = λ key.
@@ -34,8 +34,8 @@ returns-in_err-value c =
 
 pub returns : goal.returns
 returns c =
-    let t = c.args.context.case.version.now in
-    let seed = c.args.context.case.seed in
+    let t = c.args.context.run.version.now in
+    let seed = c.args.context.run.seed in
     let s = c.args.context.state.now in
     let q = c.args.context.asker.now in
     let rest : Key → Eval Move = λ key.

@@ -11,8 +11,8 @@ use Rattle.gw_verbs.proofs.parameters.decide_loop.Goals as goal
 
 pub returns-in_err-key : goal.returns-in_err-key
 returns-in_err-key c =
-    let t = c.args.context.case.version.now in
-    let seed = c.args.context.case.seed in
+    let t = c.args.context.run.version.now in
+    let seed = c.args.context.run.seed in
     let s = c.args.context.state.now in
     let q = c.args.context.asker.now in
     let rest : Key → Eval Move = λ key.
@@ -21,8 +21,8 @@ returns-in_err-key c =
 
 pub returns-in_err-left : goal.returns-in_err-left
 returns-in_err-left c =
-    let t = c.args.context.case.version.now in
-    let seed = c.args.context.case.seed in
+    let t = c.args.context.run.version.now in
+    let seed = c.args.context.run.seed in
     let s = c.args.context.state.now in
     let q = c.args.context.asker.now in
     let rest : Key → Eval Move = λ key.
@@ -39,8 +39,8 @@ returns-in_err-left c =
 
 pub returns : goal.returns
 returns c =
-    let t = c.args.context.case.version.now in
-    let seed = c.args.context.case.seed in
+    let t = c.args.context.run.version.now in
+    let seed = c.args.context.run.seed in
     let s = c.args.context.state.now in
     let q = c.args.context.asker.now in
     let rest : Key → Eval Move = λ key.

@@ -12,8 +12,8 @@ use Rattle.gw_verbs.proofs.priorities.decide_priority.Goals as goal
 
 pub returns-in_err-to : goal.returns-in_err-to
 returns-in_err-to c =
-    let t = c.args.context.case.version.now in
-    let seed = c.args.context.case.seed in
+    let t = c.args.context.run.version.now in
+    let seed = c.args.context.run.seed in
     let s = c.args.context.state.now in
     let q = c.args.context.asker.now in
     let rest : ℤ → Eval Move = λ p. gives (moves.Enter c.args.id (changes.Transaction (own.Priority p)) fates.Active) in
@@ -21,8 +21,8 @@ returns-in_err-to c =
 
 pub returns : goal.returns
 returns c =
-    let t = c.args.context.case.version.now in
-    let seed = c.args.context.case.seed in
+    let t = c.args.context.run.version.now in
+    let seed = c.args.context.run.seed in
     let s = c.args.context.state.now in
     let q = c.args.context.asker.now in
     let rest : ℤ → Eval Move = λ p. gives (moves.Enter c.args.id (changes.Transaction (own.Priority p)) fates.Active) in

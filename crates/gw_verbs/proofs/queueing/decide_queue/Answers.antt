@@ -10,8 +10,8 @@ use Rattle.gw_verbs.proofs.queueing.decide_queue.Goals as goal
 
 pub returns-in_err-key : goal.returns-in_err-key
 returns-in_err-key c =
-    let t = c.args.context.case.version.now in
-    let seed = c.args.context.case.seed in
+    let t = c.args.context.run.version.now in
+    let seed = c.args.context.run.seed in
     let s = c.args.context.state.now in
     let q = c.args.context.asker.now in
     let rest : Key → Eval Move = λ key. units_prog s q (option_copied c.args.units) ~> (λ n. queue_units c.args.id key (line_at s.entities key) n) in
@@ -19,8 +19,8 @@ returns-in_err-key c =
 
 pub returns-in_err-units : goal.returns-in_err-units
 returns-in_err-units c =
-    let t = c.args.context.case.version.now in
-    let seed = c.args.context.case.seed in
+    let t = c.args.context.run.version.now in
+    let seed = c.args.context.run.seed in
     let s = c.args.context.state.now in
     let q = c.args.context.asker.now in
     let rest : Key → Eval Move = λ key. units_prog s q (option_copied c.args.units) ~> (λ n. queue_units c.args.id key (line_at s.entities key) n) in
@@ -31,8 +31,8 @@ returns-in_err-units c =
 
 pub returns : goal.returns
 returns c =
-    let t = c.args.context.case.version.now in
-    let seed = c.args.context.case.seed in
+    let t = c.args.context.run.version.now in
+    let seed = c.args.context.run.seed in
     let s = c.args.context.state.now in
     let q = c.args.context.asker.now in
     let rest : Key → Eval Move = λ key. units_prog s q (option_copied c.args.units) ~> (λ n. queue_units c.args.id key (line_at s.entities key) n) in

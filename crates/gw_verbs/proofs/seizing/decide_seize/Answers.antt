@@ -11,8 +11,8 @@ use Rattle.gw_verbs.proofs.seizing.decide_seize.Goals as goal
 
 pub returns-in_err-key : goal.returns-in_err-key
 returns-in_err-key c =
-    let t = c.args.context.case.version.now in
-    let seed = c.args.context.case.seed in
+    let t = c.args.context.run.version.now in
+    let seed = c.args.context.run.seed in
     let s = c.args.context.state.now in
     let q = c.args.context.asker.now in
     let rest : Key → Eval Move = λ key. seize_or_wait c.args.id key (is_some (facility_at s.entities key).owner) in
@@ -20,8 +20,8 @@ returns-in_err-key c =
 
 pub returns : goal.returns
 returns c =
-    let t = c.args.context.case.version.now in
-    let seed = c.args.context.case.seed in
+    let t = c.args.context.run.version.now in
+    let seed = c.args.context.run.seed in
     let s = c.args.context.state.now in
     let q = c.args.context.asker.now in
     let rest : Key → Eval Move = λ key. seize_or_wait c.args.id key (is_some (facility_at s.entities key).owner) in

@@ -11,8 +11,8 @@ use Rattle.gw_verbs.proofs.splitting.split_count.Goals as goal
 
 pub returns-then-count-eq0 : goal.returns-then-count-eq0
 returns-then-count-eq0 c =
-    let t = c.args.case.version.now in
-    let seed = c.args.case.seed in
+    let t = c.args.run.version.now in
+    let seed = c.args.run.seed in
     let label = option_copied c.args.label in
     let made : Comes (split_into c.args.id 0 None) (Ok c.split_into.result) = search rules in
     decides_comes t seed (split_count c.args.id label c.args.count) (Ok c.split_into.result) c.args.notes.now
@@ -20,8 +20,8 @@ returns-then-count-eq0 c =
 
 pub returns-in_default : goal.returns-in_default
 returns-in_default c =
-    let t = c.args.case.version.now in
-    let seed = c.args.case.seed in
+    let t = c.args.run.version.now in
+    let seed = c.args.run.seed in
     let none : option_copied c.args.label ≡ None = search rules in
     let made : Comes (split_into c.args.id c.args.count None) (Ok c.split_into-in_default.result) = search rules in
     decides_comes t seed (split_count c.args.id (option_copied c.args.label) c.args.count) (Ok c.split_into-in_default.result) c.args.notes.now
@@ -29,8 +29,8 @@ returns-in_default c =
 
 pub returns-in_ok-to-in-Label : goal.returns-in_ok-to-in-Label
 returns-in_ok-to-in-Label c =
-    let t = c.args.case.version.now in
-    let seed = c.args.case.seed in
+    let t = c.args.run.version.now in
+    let seed = c.args.run.seed in
     let label : option_copied c.args.label ≡ Some (Label c.in-Label.name) = search rules in
     let away = ap (λ o. split_count c.args.id o c.args.count) label ∙ split_away c.args.id c.in-Label.name c.args.count c.if-count-eq0.false in
     let there : Decides t seed (split_to c.args.id c.args.count (label_at t c.in-Label.name)) c.split_to.result c.ask_label.new.notes c.ask_label.new.notes =
@@ -41,8 +41,8 @@ returns-in_ok-to-in-Label c =
 
 pub returns-in_default-node : goal.returns-in_default-node
 returns-in_default-node c =
-    let t = c.args.case.version.now in
-    let seed = c.args.case.seed in
+    let t = c.args.run.version.now in
+    let seed = c.args.run.seed in
     let label : option_copied c.args.label ≡ Some (term_of c.node.result.now) = search rules in
     let made : Comes (split_into c.args.id c.args.count None) (Ok c.split_into-in_default-node.result) = search rules in
     decides_comes t seed (split_count c.args.id (option_copied c.args.label) c.args.count) (Ok c.split_into-in_default-node.result) c.args.notes.now

@@ -9,8 +9,8 @@ use Rattle.gw_verbs.proofs.tabulating.decide_tabulate.Goals as goal
 
 pub returns-in_ok-argument-in-Table : goal.returns-in_ok-argument-in-Table
 returns-in_ok-argument-in-Table c =
-    let t = c.args.context.case.version.now in
-    let seed = c.args.context.case.seed in
+    let t = c.args.context.run.version.now in
+    let seed = c.args.context.run.seed in
     let s = c.args.context.state.now in
     let q = c.args.context.asker.now in
     let name = c.in-Table.name in

@@ -1,6 +1,6 @@
 use Rattle.std.proofs.Common.{◌≡◌, ℤ, Ok, option_copied, refl, rules}
 use Rattle.gw_names.specs.declared.key.Key.TheVariants as keys
-use Rattle.gw_meaning.specs.declared.entity_change.Deed.TheVariants as deeds
+use Rattle.gw_meaning.specs.declared.entity_change.Update.TheVariants as updates
 use Rattle.gw_meaning.specs.declared.moves.Change.TheVariants as changes
 use Rattle.gw_meaning.specs.declared.moves.Fate.TheVariants as fates
 use Rattle.gw_meaning.specs.declared.moves.Move.{Move}
@@ -13,8 +13,8 @@ use Rattle.gw_verbs.proofs.tabulating.tabulate_with.Goals as goal
 
 pub returns-in_err-value : goal.returns-in_err-value
 returns-in_err-value c =
-    let t = c.args.context.case.version.now in
-    let seed = c.args.context.case.seed in
+    let t = c.args.context.run.version.now in
+    let seed = c.args.context.run.seed in
     let s = c.args.context.state.now in
     let q = c.args.context.asker.now in
     let rest : ℤ → Eval Move = λ v. tabulate_to c.args.id (keys.Defined c.args.name.now) v in
@@ -22,12 +22,12 @@ returns-in_err-value c =
 
 pub returns : goal.returns
 returns c =
-    let t = c.args.context.case.version.now in
-    let seed = c.args.context.case.seed in
+    let t = c.args.context.run.version.now in
+    let seed = c.args.context.run.seed in
     let s = c.args.context.state.now in
     let q = c.args.context.asker.now in
     let rest : ℤ → Eval Move = λ v. tabulate_to c.args.id (keys.Defined c.args.name.now) v in
     let value = c.in_ok-value.value in
-    let made : c.enter_doing.result ≡ moves.Enter c.args.id (changes.Entity (keys.Defined c.args.name.now, deeds.Table value)) fates.Active = search rules in
+    let made : c.enter_doing.result ≡ moves.Enter c.args.id (changes.Entity (keys.Defined c.args.name.now, updates.Table value)) fates.Active = search rules in
     let here : Comes (rest value) (Ok c.enter_doing.result) = rw made refl in
     decides_then t seed (value_there s q (option_copied c.args.argument)) rest value (Ok c.enter_doing.result) _ _ _ c.in_ok-value.ensures (decides_comes t seed (rest value) (Ok c.enter_doing.result) _ here)

@@ -58,7 +58,7 @@ returns c =
     } in
     record {
       plays = plays;
-      right = reports_are_right c.args.self.now at.self c.args.events.items at.replies.items c.is_book.ensures plays;
-      printed = λ spelled. reports_are_of_printed c.args.self.now at.self c.args.events.items at.replies.items c.is_book.ensures spelled plays;
+      right = reports_are_right c.args.self.now at.self c.args.events.items at.replies.items c.lemma_is_book.ensures plays;
+      printed = λ spelled. reports_are_of_printed c.args.self.now at.self c.args.events.items at.replies.items c.lemma_is_book.ensures spelled plays;
       err = tt;
     }

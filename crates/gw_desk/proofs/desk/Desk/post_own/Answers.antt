@@ -17,7 +17,7 @@ returns-in_default-clause-posts c =
     let home = c.if-not-is_home_of.ensures.yes refl in
     let whole : c.as_slice.result.now ≡ b.edits = c.as_slice.ensures.value ∙ ap (λ (b : Book). b.edits) c.self.view_is in
     let front : c.len.result ≡ length l.edits = search rules in
-    (refl, useless b l c.is_book.ensures c.is_leg.ensures home.0 home.1 c.as_slice.result.now c.len.result c.in_ok-run.field-0 whole front c.in_ok-run.ensures c.in_default.is)
+    (refl, useless b l c.lemma_is_book.ensures c.is_leg.ensures home.0 home.1 c.as_slice.result.now c.len.result c.in_ok-run.field-0 whole front c.in_ok-run.ensures c.in_default.is)
 
 pub unreachable-requires : goal.unreachable-requires
 unreachable-requires c =
@@ -26,9 +26,9 @@ unreachable-requires c =
     let home = c.if-not-is_home_of.ensures.yes refl in
     let whole : c.as_slice.result.now ≡ b.edits = c.as_slice.ensures.value ∙ ap (λ (b : Book). b.edits) c.self.view_is in
     let front : c.len.result ≡ length l.edits = search rules in
-    let alive = alive_at b l c.is_book.ensures c.is_leg.ensures home.0 home.1 c.as_slice.result.now c.len.result c.in_ok-run.field-0 whole front
+    let alive = alive_at b l c.lemma_is_book.ensures c.is_leg.ensures home.0 home.1 c.as_slice.result.now c.len.result c.in_ok-run.field-0 whole front
     c.in_ok-run.ensures c.in-Some.run' c.in-Some.is in
-    let run = still b l c.is_book.ensures c.is_leg.ensures home.0 home.1 alive.0 c.in-Some.run' alive.1 in
+    let run = still b l c.lemma_is_book.ensures c.is_leg.ensures home.0 home.1 alive.0 c.in-Some.run' alive.1 in
     let none : seed_at c.args.self.now.version c.args.leg.replication ≡ None = search rules in
     let both : Some run.seed ≡ None = sym run.with_seed ∙ none in
     absurd cc
@@ -41,9 +41,9 @@ left c =
     let home = c.if-not-is_home_of.ensures.yes refl in
     let whole : c.as_slice.result.now ≡ b.edits = c.as_slice.ensures.value ∙ ap (λ (b : Book). b.edits) c.self.view_is in
     let front : c.len.result ≡ length l.edits = search rules in
-    let alive = alive_at b l c.is_book.ensures c.is_leg.ensures home.0 home.1 c.as_slice.result.now c.len.result c.in_ok-run.field-0 whole front
+    let alive = alive_at b l c.lemma_is_book.ensures c.is_leg.ensures home.0 home.1 c.as_slice.result.now c.len.result c.in_ok-run.field-0 whole front
     c.in_ok-run.ensures c.in-Some.run' c.in-Some.is in
-    still b l c.is_book.ensures c.is_leg.ensures home.0 home.1 alive.0 c.in-Some.run' alive.1
+    still b l c.lemma_is_book.ensures c.is_leg.ensures home.0 home.1 alive.0 c.in-Some.run' alive.1
 
 pub record-requires-clause-records : goal.record-requires-clause-records
 record-requires-clause-records c =
@@ -63,5 +63,5 @@ returns-clause-posts c =
     let home = c.if-not-is_home_of.ensures.yes refl in
     let whole : c.as_slice.result.now ≡ b.edits = c.as_slice.ensures.value ∙ ap (λ (b : Book). b.edits) c.self.view_is in
     let front : c.len.result ≡ length l.edits = search rules in
-    posted_so b l c.is_book.ensures c.is_leg.ensures home.0 home.1 c.as_slice.result.now c.len.result c.in_ok-run.field-0 whole front
+    posted_so b l c.lemma_is_book.ensures c.is_leg.ensures home.0 home.1 c.as_slice.result.now c.len.result c.in_ok-run.field-0 whole front
     c.in_ok-run.ensures c.in-Some.run' c.in-Some.is c.record.result c.record.new.self (search rules)

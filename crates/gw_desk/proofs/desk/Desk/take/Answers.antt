@@ -20,7 +20,7 @@ invariant_of-result c =
     let run = c.in-Some-run.run'.now in
     let with_seed : seed_at b.version c.args.rep ≡ Some c.in-Some.seed = search rules in
     let there : run_in b.runs c.args.rep ≡ Some run = search rules in
-    is_leg b c.args.rep c.in-Some.seed run with_seed there c.is_book.ensures c.in_ok-run.run' (search rules) _ (search rules) (search rules) (search rules)
+    is_leg b c.args.rep c.in-Some.seed run with_seed there c.lemma_is_book.ensures c.in_ok-run.run' (search rules) _ (search rules) (search rules) (search rules)
     (search rules) (search rules) (search rules)
 
 pub returns-clause-takes : goal.returns-clause-takes
@@ -30,5 +30,5 @@ returns-clause-takes c =
     let with_seed : seed_at b.version c.args.rep ≡ Some c.in-Some.seed = search rules in
     let there : run_in b.runs c.args.rep ≡ Some run = search rules in
     let on = rw c.if-branch.false at c.in_ok-is_at_end.ensures in
-    taken b c.args.rep c.in-Some.seed run with_seed there c.is_book.ensures (subst (λ (x : Book). GoesOn x.version c.in-Some.seed run) c.self.view_is on) c.in_ok-run.run'
+    taken b c.args.rep c.in-Some.seed run with_seed there c.lemma_is_book.ensures (subst (λ (x : Book). GoesOn x.version c.in-Some.seed run) c.self.view_is on) c.in_ok-run.run'
     (search rules) _ (search rules) (search rules) (search rules) refl refl refl (search rules)

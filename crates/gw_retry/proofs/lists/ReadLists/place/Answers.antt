@@ -2,7 +2,7 @@ use Rattle.std.proofs.Common.{◌≡◌, Some}
 use Rattle.std.specs.List.{find}
 use Rattle.std.specs.Cmp.Lexicographic.{pointwise}
 use Rattle.std.specs.Global.{Vec}
-use Rattle.gw_entities.proofs.ComingLaws.{find_passes}
+use Rattle.gw_entities.proofs.QueueArrivalLaws.{find_passes}
 use Rattle.gw_meaning.specs.declared.watched.Watched.{Watched}
 use Rattle.gw_meaning.specs.Watching.{same_watched}
 use Rattle.gw_retry.proofs.Kept.{stored_is}

@@ -18,5 +18,5 @@ returns-clause-ok c =
       savevalues = e.savevalues;
       switches = e.switches;
       tables = tables i;
-      comings = e.comings.comings;
+      queue_arrivals = e.queue_arrivals.queue_arrivals;
     } in now)

@@ -13,8 +13,8 @@ use Rattle.gw_values.proofs.traced.Traced.of_attribute.Goals as goal
 pub returns-in_err-thing-clause-decided : goal.returns-in_err-thing-clause-decided
 returns-in_err-thing-clause-decided c =
     let w = c.args.self.now.seen in
-    let t = w.context.case.version.now in
-    let seed = w.context.case.seed in
+    let t = w.context.run.version.now in
+    let seed = w.context.run.seed in
     let class = c.args.sna.class in
     let of = c.args.sna.of.now in
     let read = c.args.self.now.read.now.items in
@@ -27,8 +27,8 @@ returns-in_err-thing-clause-decided c =
 pub returns-in_err-value-clause-decided : goal.returns-in_err-value-clause-decided
 returns-in_err-value-clause-decided c =
     let w = c.args.self.now.seen in
-    let t = w.context.case.version.now in
-    let seed = w.context.case.seed in
+    let t = w.context.run.version.now in
+    let seed = w.context.run.seed in
     let class = c.args.sna.class in
     let of = c.args.sna.of.now in
     let read = c.args.self.now.read.now.items in
@@ -44,8 +44,8 @@ returns-in_err-value-clause-decided c =
 pub returns-clause-decided : goal.returns-clause-decided
 returns-clause-decided c =
     let w = c.args.self.now.seen in
-    let t = w.context.case.version.now in
-    let seed = w.context.case.seed in
+    let t = w.context.run.version.now in
+    let seed = w.context.run.seed in
     let class = c.args.sna.class in
     let of = c.args.sna.of.now in
     let read = c.args.self.now.read.now.items in

@@ -4,10 +4,10 @@ use Rattle.std.specs.List.{AllByRecursion}
 use Rattle.std.proofs.lemmas.Bool.{cases_Bool, ne_eqb}
 use Rattle.gw_names.specs.declared.key.Key.{Key}
 use Rattle.gw_names.specs.Keys.{key_eq}
-use Rattle.gw_entities.specs.Comings.{came, with_coming}
-use Rattle.gw_meaning.specs.declared.entity_change.Deed.{Deed}
-use Rattle.gw_meaning.specs.declared.entity_change.Deed.TheVariants as deeds
-use Rattle.gw_meaning.specs.declared.entity_change.QueueDeed.TheVariants as of_queue
+use Rattle.gw_entities.specs.QueueArrivals.{came, with_queue_arrival}
+use Rattle.gw_meaning.specs.declared.entity_change.Update.{Update}
+use Rattle.gw_meaning.specs.declared.entity_change.Update.TheVariants as updates
+use Rattle.gw_meaning.specs.declared.entity_change.QueueUpdate.TheVariants as of_queue
 use Rattle.gw_meaning.specs.declared.moves.Arrival.{Arrival}
 use Rattle.gw_meaning.specs.declared.moves.Change.{Change}
 use Rattle.gw_meaning.specs.declared.moves.Change.TheVariants as changes
@@ -37,7 +37,7 @@ below_more : (low high : ℕ) (cs : List (Key × ℕ)) → low ≤ high → AreB
 below_more low high [] less all = tt
 below_more low high (c ∷ cs) less all = (omega (arith, less, all.0), below_more low high cs less all.1)
 
-with_below : (next : ℕ) (cs : List (Key × ℕ)) (key : Key) (number : ℕ) → number < next → AreBelow next cs → AreBelow next (with_coming cs key number)
+with_below : (next : ℕ) (cs : List (Key × ℕ)) (key : Key) (number : ℕ) → number < next → AreBelow next cs → AreBelow next (with_queue_arrival cs key number)
 with_below next [] key number one' all = (one', tt)
 with_below next (c ∷ cs) key number one' all =
     let rest = with_below next cs key number one' all.1 in
@@ -54,21 +54,21 @@ not_come next (c ∷ cs) key number above all =
     rw (apart, rest) (elim (key_eq key c.0) as (λ b. ((b && false) || false) ≡ false) [ true ↦ refl | false ↦ refl ])
 
 abbrev ComersAreGiven : Machine → Type 0
-ComersAreGiven s = AreBelow s.next s.entities.comings
+ComersAreGiven s = AreBelow s.next s.entities.queue_arrivals
 
-done_below : (key : Key) (deed : Deed) (clock number next : ℕ) (e : Entities) → number < next → AreBelow next e.comings →
-    AreBelow next (done key deed clock number e).comings
-done_below key (deeds.Queue (of_queue.Queue units)) clock number next e one' all = with_below next e.comings key number one' all
-done_below key deed clock number next e one' all = all
+done_below : (key : Key) (update : Update) (clock number next : ℕ) (e : Entities) → number < next → AreBelow next e.queue_arrivals →
+    AreBelow next (done key update clock number e).queue_arrivals
+done_below key (updates.Queue (of_queue.Queue units)) clock number next e one' all = with_below next e.queue_arrivals key number one' all
+done_below key update clock number next e one' all = all
 
-touched_below : (change : Change) (clock number next : ℕ) (e : Entities) → number < next → AreBelow next e.comings →
-    AreBelow next (touched change clock number e).comings
+touched_below : (change : Change) (clock number next : ℕ) (e : Entities) → number < next → AreBelow next e.queue_arrivals →
+    AreBelow next (touched change clock number e).queue_arrivals
 touched_below (changes.Entity change) clock number next e one' all = done_below change.0 change.1 clock number next e one' all
 touched_below change clock number next e one' all = all
 
-later_below : (before now next : ℕ) (e : Entities) → AreBelow next e.comings → AreBelow next (later before now e).comings
+later_below : (before now next : ℕ) (e : Entities) → AreBelow next e.queue_arrivals → AreBelow next (later before now e).queue_arrivals
 later_below before now next e all =
-    elim (nat_eq before now) as (λ b. AreBelow next (cond b e.comings [])) [ true ↦ all | false ↦ tt ]
+    elim (nat_eq before now) as (λ b. AreBelow next (cond b e.queue_arrivals [])) [ true ↦ all | false ↦ tt ]
 
 all_made_more : (arrivals : List Arrival) (w : Making) → w.next < 2 ^ 64 → w.next ≤ (all_made arrivals w).next
 all_made_more [] w low = omega arith
@@ -76,7 +76,7 @@ all_made_more (a ∷ rest) w low = let more = all_made_more rest (made a w) (ome
 
 moved_given : (t : Listing) (s : Machine) (m : Move) → s.next < 2 ^ 64 → IsNumbered s → IsDecided t s m → ComersAreGiven s → ComersAreGiven (moved s m)
 moved_given t s (moves.Start count arrivals) low numbered decided h =
-    below_more s.next (all_made arrivals (making_of s)).next s.entities.comings (all_made_more arrivals (making_of s) low) h
+    below_more s.next (all_made arrivals (making_of s)).next s.entities.queue_arrivals (all_made_more arrivals (making_of s) low) h
 moved_given t s moves.Command low numbered decided h = h
 moved_given t s moves.Reset low numbered decided h = h
 moved_given t s moves.Clear low numbered decided h = tt
@@ -88,9 +88,9 @@ moved_given t s (moves.Enter id change fate) low numbered decided h =
     rw (same.next, same.entities) (low, touched_below change s.clock x.number s.next s.entities (is_given s x is numbered) h))
     (λ v. record {
       nothing = λ k. k;
-      one = λ a coming k. (omega arith, below_more v.next _ v.entities.comings (omega (arith, k.0)) k.1);
+      one = λ a coming k. (omega arith, below_more v.next _ v.entities.queue_arrivals (omega (arith, k.0)) k.1);
       lets = λ w key x passed xs is k. (let same = let_in_is key x (passed ++ xs) w in rw (same.next, same.entities) k);
-      copies = λ w to x values copying k. (omega arith, below_more w.next _ w.entities.comings (omega (arith, k.0)) k.1);
+      copies = λ w to x values copying k. (omega arith, below_more w.next _ w.entities.queue_arrivals (omega (arith, k.0)) k.1);
       unlinks = λ w key to x xs named is k. k;
     }) in
     whole.1
@@ -110,6 +110,6 @@ pub copies_came_to_no_queue : CopiesCameToNoQueue
 copies_came_to_no_queue t seed s v id count to split number key new =
     let h : Splits s v id count to = splits_so t seed s v id count to split in
     let all = all_given t seed split.well split.moment s split.before split.within in
-    ap (λ (w : Machine). came w.entities.comings key number) h.is
-    ∙ (ap (λ (e : Entities). came e.comings key number) (after s v id count to h).entities
-    ∙ not_come s.next s.entities.comings key number new all)
+    ap (λ (w : Machine). came w.entities.queue_arrivals key number) h.is
+    ∙ (ap (λ (e : Entities). came e.queue_arrivals key number) (after s v id count to h).entities
+    ∙ not_come s.next s.entities.queue_arrivals key number new all)

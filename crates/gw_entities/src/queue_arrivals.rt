@@ -1,6 +1,6 @@
 ghost use Rattle.std.specs.Prelude.{◌≡◌, ◌==◌, ◌<◌, [], Some, length, slice_get, IfOk, OnOk};
 ghost use Rattle.gw_names.specs.declared.key.Key.{Key};
-ghost use Rattle.gw_entities.specs.Comings.{came, with_coming, AreOnce};
+ghost use Rattle.gw_entities.specs.QueueArrivals.{came, with_queue_arrival, AreOnce};
 
 use crate::own_list::OwnList;
 use gw_names::Key;
@@ -8,34 +8,34 @@ use std::alloc::{AllocError, Global};
 use std::marker::Model;
 
 /// Which transactions came to which queue since this was last cleared. A run clears it when the clock moves on. Copies
-/// share the comings.
+/// share the arrivals at queues.
 #[derive(Drop)]
-pub struct Comings {
+pub struct QueueArrivals {
     own: OwnList<()>,
 }
 
-impl Model for Comings {
+impl Model for QueueArrivals {
     ghost use Rattle.std.specs.Prelude.{map};
-    ghost use Rattle.gw_entities.specs.Comings.{Arrivals, AreOnce, coming_of};
+    ghost use Rattle.gw_entities.specs.QueueArrivals.{Arrivals, AreOnce, queue_arrival_of};
     ghost use Rattle.gw_entities.specs.Owned.{AreRising};
 
     ghost Value = { Arrivals };
 
     ghost view = { λ c. record {
-      comings = map coming_of c.own.entries;
+      queue_arrivals = map queue_arrival_of c.own.entries;
       keys = c.own.keys;
       room = c.own.room;
     } };
 
-    ghost invariant = { λ c. AreRising c.own.entries × AreOnce (map coming_of c.own.entries) };
+    ghost invariant = { λ c. AreRising c.own.entries × AreOnce (map queue_arrival_of c.own.entries) };
 }
 
-impl Comings {
+impl QueueArrivals {
     /// Nobody came yet.
-    pub fn new(alloc: Global) -> Comings
-        ensures { result.comings ≡ [] }
+    pub fn new(alloc: Global) -> QueueArrivals
+        ensures { result.queue_arrivals ≡ [] }
     {
-        Comings {
+        QueueArrivals {
             own: OwnList::new(alloc),
         }
     }
@@ -43,8 +43,8 @@ impl Comings {
     /// Whether nobody came. None came to a queue twice.
     #[inline(always)]
     pub fn is_empty(&self) -> bool
-        ensures empty { result ≡ (length self.now.comings == 0) }
-        ensures once { AreOnce self.now.comings }
+        ensures empty { result ≡ (length self.now.queue_arrivals == 0) }
+        ensures once { AreOnce self.now.queue_arrivals }
     {
         self.own.is_empty()
     }
@@ -52,7 +52,7 @@ impl Comings {
     /// Whether a transaction came to a queue.
     #[inline(always)]
     pub fn has(&self, key: &Key, number: u64) -> bool
-        ensures { result ≡ came self.now.comings key.now number }
+        ensures { result ≡ came self.now.queue_arrivals key.now number }
     {
         if self.own.is_empty() {
             return false;
@@ -65,7 +65,7 @@ impl Comings {
         ensures room { OnOk result (0 < self.new.room) }
         ensures key { IfOk result (λ i. slice_get self.new.keys i ≡ Some key.now) }
         ensures within { IfOk result (λ i. i < length self.new.keys) }
-        ensures comings { self.new.comings ≡ self.old.comings }
+        ensures queue_arrivals { self.new.queue_arrivals ≡ self.old.queue_arrivals }
     {
         self.own.reserve(key)
     }
@@ -75,30 +75,30 @@ impl Comings {
         requires room { 0 < self.old.room }
         requires key { key < length self.old.keys }
         ensures { (k : Key) → slice_get self.old.keys key ≡ Some k →
-            self.new.comings ≡ with_coming self.old.comings k number }
+            self.new.queue_arrivals ≡ with_queue_arrival self.old.queue_arrivals k number }
     {
         self.own.put(number, key, ());
     }
 
     /// Forgets who came.
     pub fn clear(&mut self)
-        ensures { self.new.comings ≡ [] }
+        ensures { self.new.queue_arrivals ≡ [] }
     {
         self.own.clear();
     }
 
-    /// Copies share the comings from now on.
+    /// Copies share the arrivals at queues from now on.
     pub fn share(&mut self) -> Result<(), AllocError>
-        ensures { self.new.comings ≡ self.old.comings }
+        ensures { self.new.queue_arrivals ≡ self.old.queue_arrivals }
     {
         self.own.share()
     }
 
     /// A copy.
-    pub fn copy(&self) -> Result<Comings, AllocError>
-        ensures { IfOk result (λ c. c.comings ≡ self.now.comings) }
+    pub fn copy(&self) -> Result<QueueArrivals, AllocError>
+        ensures { IfOk result (λ c. c.queue_arrivals ≡ self.now.queue_arrivals) }
     {
         let own = self.own.copy()?;
-        Ok(Comings { own })
+        Ok(QueueArrivals { own })
     }
 }

@@ -5,10 +5,10 @@ use Rattle.gw_names.specs.declared.key.Key.{Key}
 use Rattle.gw_names.specs.Keys.{key_eq}
 use Rattle.gw_entities.specs.Owned.{Entry}
 
--- what a contract sees of `Comings`
+-- what a contract sees of `QueueArrivals`
 pub record Arrivals : Type 0 where
   -- the queue, and the number of the transaction
-  pub comings : List (Key × ℕ)
+  pub queue_arrivals : List (Key × ℕ)
   -- the queues to which one may come
   pub keys : List Key
   -- for how many more there is room
@@ -25,12 +25,12 @@ AreOnce [] = Unit {0}
 AreOnce (c ∷ cs) = (came cs c.0 c.1 ≡ false) × AreOnce cs
 
 -- with a coming of a transaction to a queue: after its others, and once
-abbrev pub with_coming : List (Key × ℕ) → Key → ℕ → List (Key × ℕ)
-with_coming [] key number = (key, number) ∷ []
-with_coming (c ∷ cs) key number =
+abbrev pub with_queue_arrival : List (Key × ℕ) → Key → ℕ → List (Key × ℕ)
+with_queue_arrival [] key number = (key, number) ∷ []
+with_queue_arrival (c ∷ cs) key number =
     if nat_lt number c.1 then (key, number) ∷ c ∷ cs
-    else if key_eq key c.0 && nat_eq number c.1 then c ∷ cs else c ∷ with_coming cs key number
+    else if key_eq key c.0 && nat_eq number c.1 then c ∷ cs else c ∷ with_queue_arrival cs key number
 
--- how `Comings` keeps one
-abbrev pub coming_of : {V : Type 0} → Entry V → Key × ℕ
-coming_of e = (e.1.0, e.0)
+-- how `QueueArrivals` keeps one
+abbrev pub queue_arrival_of : {V : Type 0} → Entry V → Key × ℕ
+queue_arrival_of e = (e.1.0, e.0)

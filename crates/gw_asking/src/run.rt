@@ -15,7 +15,7 @@ use std::alloc::{AllocError, Global};
 
 /// The version and the seed that a run is of, and where a step finds memory.
 #[derive(Clone, Copy)]
-pub struct Case<'a> {
+pub struct Run<'a> {
     /// Where a step finds memory.
     pub alloc: Global,
     /// The version that is asked.

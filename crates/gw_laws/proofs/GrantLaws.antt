@@ -9,21 +9,21 @@ use Rattle.gw_names.specs.declared.key.Key.TheVariants as keys
 use Rattle.gw_names.specs.Keys.{key_eq}
 use Rattle.gw_entities.specs.Records.{Store, never_used, entered, left}
 use Rattle.gw_entities.specs.Tables.{value_of, with_value}
-use Rattle.gw_entities.proofs.ComingLaws.{key_same}
+use Rattle.gw_entities.proofs.QueueArrivalLaws.{key_same}
 use Rattle.gw_entities.proofs.TableLaws.{key_eq_equiv}
 use Rattle.gw_meaning.specs.declared.transaction.Transaction.{Transaction}
-use Rattle.gw_meaning.specs.declared.entity_change.Deed.{Deed}
-use Rattle.gw_meaning.specs.declared.entity_change.Deed.TheVariants as deeds
-use Rattle.gw_meaning.specs.declared.entity_change.FacilityDeed.TheVariants as of_facility
-use Rattle.gw_meaning.specs.declared.entity_change.StorageDeed.TheVariants as of_storage
+use Rattle.gw_meaning.specs.declared.entity_change.Update.{Update}
+use Rattle.gw_meaning.specs.declared.entity_change.Update.TheVariants as updates
+use Rattle.gw_meaning.specs.declared.entity_change.FacilityUpdate.TheVariants as of_facility
+use Rattle.gw_meaning.specs.declared.entity_change.StorageUpdate.TheVariants as of_storage
 use Rattle.gw_meaning.specs.declared.moves.Move.{Move}
 use Rattle.gw_meaning.specs.declared.moves.Move.TheVariants as moves
 use Rattle.gw_meaning.specs.Listing.{Listing, capacity_at}
 use Rattle.gw_meaning.specs.Entities.{Entities, store_at, all_entered, done}
 use Rattle.gw_meaning.specs.Machine.{Machine, delay_at}
 use Rattle.gw_meaning.specs.Changes.{lined_up, one_let_in, some_let_in, admitted, entering, bound, refused, moved, watching}
-use Rattle.gw_meaning.specs.Step.{beside, in_use, share_of}
-use Rattle.gw_frame.proofs.Known.{does_fit, shares_of, is_storage, IsDecidedDeed, IsRefused, IsDecided}
+use Rattle.gw_meaning.specs.Step.{beside, in_use, grant_of}
+use Rattle.gw_frame.proofs.Known.{does_fit, grants_of, is_storage, IsDecidedUpdate, IsRefused, IsDecided}
 use Rattle.gw_frame.proofs.Moves.{chain_behind, with_active_has, picked_has}
 use Rattle.gw_frame.proofs.Running.{over_run}
 use Rattle.gw_laws.specs.Storages.{content_at, NobodyWaitsAtRoom}
@@ -77,8 +77,8 @@ store_there e q key s other = at_with never_used e.storages key s q ∙ ap (λ b
 -- of a chain, those who fit are let in, and there is no room for the others
 room_left : (t : Listing) (name : List ℕ) (clock : ℕ) (chain passed : List Transaction) (content : ℕ) (s : Store) (w : Machine) →
     delay_at w.delays (keys.Defined name) ≡ passed ++ chain → s.level.content ≡ content → content ≤ 2 ^ 64 - 1 → AllWait t name content passed →
-    AllWait t name (all_entered (shares_of t name content chain) clock s).level.content
-    (delay_at (some_let_in (keys.Defined name) (shares_of t name content chain) passed chain w).delays (keys.Defined name))
+    AllWait t name (all_entered (grants_of t name content chain) clock s).level.content
+    (delay_at (some_let_in (keys.Defined name) (grants_of t name content chain) passed chain w).delays (keys.Defined name))
 room_left t name clock [] passed content s w is at counted all =
     subst (AllWait t name s.level.content) (sym (is ∙ append-nil passed)) (subst (λ c. AllWait t name c passed) (sym at) all)
 room_left t name clock (x ∷ xs) passed content s w is at counted all =
@@ -86,10 +86,10 @@ room_left t name clock (x ∷ xs) passed content s w is at counted all =
   where
     go : (fits : Bool) → does_fit t name (beside x.asked content) ≡ fits →
         ((before : List Transaction) (c : ℕ) (r : Store) (v : Machine) → delay_at v.delays (keys.Defined name) ≡ before ++ xs → r.level.content ≡ c →
-        c ≤ 2 ^ 64 - 1 → AllWait t name c before → AllWait t name (all_entered (shares_of t name c xs) clock r).level.content
-        (delay_at (some_let_in (keys.Defined name) (shares_of t name c xs) before xs v).delays (keys.Defined name))) →
-        AllWait t name (all_entered (share_of x.asked fits ∷ shares_of t name (in_use content x.asked fits) xs) clock s).level.content
-        (delay_at (some_let_in (keys.Defined name) (share_of x.asked fits ∷ shares_of t name (in_use content x.asked fits) xs) passed (x ∷ xs) w).delays
+        c ≤ 2 ^ 64 - 1 → AllWait t name c before → AllWait t name (all_entered (grants_of t name c xs) clock r).level.content
+        (delay_at (some_let_in (keys.Defined name) (grants_of t name c xs) before xs v).delays (keys.Defined name))) →
+        AllWait t name (all_entered (grant_of x.asked fits ∷ grants_of t name (in_use content x.asked fits) xs) clock s).level.content
+        (delay_at (some_let_in (keys.Defined name) (grant_of x.asked fits ∷ grants_of t name (in_use content x.asked fits) xs) passed (x ∷ xs) w).delays
         (keys.Defined name))
     go false fits rest =
         let none = no_room (beside x.asked content) (capacity_at t name) fits in
@@ -107,22 +107,22 @@ apart (keys.Named other) name facility = refl
 apart (keys.Defined other) name facility = absurd cc
 
 -- one storage is set, and some of its chain may be let in: the others are as they were
-other_room : (t : Listing) (s v : Machine) (name q : List ℕ) (shares : List (Option ℕ)) (chain : List Transaction) (store : Store) →
+other_room : (t : Listing) (s v : Machine) (name q : List ℕ) (grants : List (Option ℕ)) (chain : List Transaction) (store : Store) →
     key_eq (keys.Defined q) (keys.Defined name) ≡ false → v.delays ≡ s.delays →
     v.entities ≡ record s.entities { storages = with_value s.entities.storages (keys.Defined name) store } → NobodyHasRoom t s →
-    AllWait t q (content_at (some_let_in (keys.Defined name) shares [] chain v).entities q)
-    (delay_at (some_let_in (keys.Defined name) shares [] chain v).delays (keys.Defined q))
-other_room t s v name q shares chain store other chains entities h =
-    let w = some_let_in (keys.Defined name) shares [] chain v in
+    AllWait t q (content_at (some_let_in (keys.Defined name) grants [] chain v).entities q)
+    (delay_at (some_let_in (keys.Defined name) grants [] chain v).delays (keys.Defined q))
+other_room t s v name q grants chain store other chains entities h =
+    let w = some_let_in (keys.Defined name) grants [] chain v in
     let same : content_at w.entities q ≡ content_at s.entities q =
-    ap (λ (e : Entities). content_at e q) (entities_stay (keys.Defined name) shares [] chain v ∙ entities)
+    ap (λ (e : Entities). content_at e q) (entities_stay (keys.Defined name) grants [] chain v ∙ entities)
     ∙ ap (λ (r : Store). r.level.content) (store_there s.entities (keys.Defined q) (keys.Defined name) store other) in
     same_room t s w q
-    (others_stay (keys.Defined q) (keys.Defined name) shares [] chain v other ∙ ap (λ ds. delay_at ds (keys.Defined q)) chains)
+    (others_stay (keys.Defined q) (keys.Defined name) grants [] chain v other ∙ ap (λ ds. delay_at ds (keys.Defined q)) chains)
     (no_less (content_at s.entities q) (content_at w.entities q) same) h
 
 enter_room : (t : Listing) (s v : Machine) (name : List ℕ) (units number : ℕ) → v.delays ≡ s.delays →
-    v.entities ≡ done (keys.Defined name) (deeds.Storage (of_storage.Enter units)) s.clock number s.entities → AreCounted s → NobodyHasRoom t s → NobodyHasRoom t v
+    v.entities ≡ done (keys.Defined name) (updates.Storage (of_storage.Enter units)) s.clock number s.entities → AreCounted s → NobodyHasRoom t s → NobodyHasRoom t v
 enter_room t s v name units number chains entities counted h q =
     let store = entered units s.clock (store_at s.entities (keys.Defined name)) in
     elim (cases_Bool (key_eq (keys.Defined q) (keys.Defined name))) [
@@ -139,38 +139,38 @@ enter_room t s v name units number chains entities counted h q =
 leave_room : (t : Listing) (s v : Machine) (name : List ℕ) (units number : ℕ) (chain : List Transaction) → delay_at v.delays (keys.Defined name) ≡ chain →
     v.delays ≡ s.delays →
     v.entities
-    ≡ done (keys.Defined name) (deeds.Storage (of_storage.Leave units (shares_of t name (content_at s.entities name - units) chain))) s.clock number s.entities →
+    ≡ done (keys.Defined name) (updates.Storage (of_storage.Leave units (grants_of t name (content_at s.entities name - units) chain))) s.clock number s.entities →
     AreCounted s → NobodyHasRoom t s →
-    NobodyHasRoom t (some_let_in (keys.Defined name) (shares_of t name (content_at s.entities name - units) chain) [] chain v)
+    NobodyHasRoom t (some_let_in (keys.Defined name) (grants_of t name (content_at s.entities name - units) chain) [] chain v)
 leave_room t s v name units number chain is chains entities counted h q =
     let content = content_at s.entities name - units in
-    let shares = shares_of t name content chain in
-    let w = some_let_in (keys.Defined name) shares [] chain v in
+    let grants = grants_of t name content chain in
+    let w = some_let_in (keys.Defined name) grants [] chain v in
     let less = left units s.clock (store_at s.entities (keys.Defined name)) in
-    let store = all_entered shares s.clock less in
+    let store = all_entered grants s.clock less in
     elim (cases_Bool (key_eq (keys.Defined q) (keys.Defined name))) [
       | inl here ↦
           let same : q ≡ name = one_name t s.clock q name (key_same (keys.Defined q) (keys.Defined name) here) in
           let now : content_at w.entities name ≡ store.level.content =
-          ap (λ (e : Entities). content_at e name) (entities_stay (keys.Defined name) shares [] chain v ∙ entities)
+          ap (λ (e : Entities). content_at e name) (entities_stay (keys.Defined name) grants [] chain v ∙ entities)
           ∙ ap (λ (r : Store). r.level.content) (store_here s.entities name store) in
           let before = counted name in
           subst (λ n. AllWait t n (content_at w.entities n) (delay_at w.delays (keys.Defined n))) (sym same)
           (subst (λ c. AllWait t name c (delay_at w.delays (keys.Defined name))) (sym now)
           (room_left t name s.clock chain [] content less v is refl (omega arith) tt))
-      | inr other ↦ other_room t s v name q shares chain store other chains entities h
+      | inr other ↦ other_room t s v name q grants chain store other chains entities h
     ]
 
--- a deed that concerns no storage
-facility_room : (t : Listing) (s v : Machine) (key : Key) (shares : List (Option ℕ)) (chain : List Transaction) → is_storage key ≡ false →
-    v.delays ≡ s.delays → v.entities.storages ≡ s.entities.storages → NobodyHasRoom t s → NobodyHasRoom t (some_let_in key shares [] chain v)
-facility_room t s v key shares chain facility chains storages h q =
-    let w = some_let_in key shares [] chain v in
+-- an update that concerns no storage
+facility_room : (t : Listing) (s v : Machine) (key : Key) (grants : List (Option ℕ)) (chain : List Transaction) → is_storage key ≡ false →
+    v.delays ≡ s.delays → v.entities.storages ≡ s.entities.storages → NobodyHasRoom t s → NobodyHasRoom t (some_let_in key grants [] chain v)
+facility_room t s v key grants chain facility chains storages h q =
+    let w = some_let_in key grants [] chain v in
     let same : content_at w.entities q ≡ content_at s.entities q =
-    ap (λ (e : Entities). content_at e q) (entities_stay key shares [] chain v)
+    ap (λ (e : Entities). content_at e q) (entities_stay key grants [] chain v)
     ∙ ap (λ es. (unwrap_or (value_of es (keys.Defined q)) never_used).level.content) storages in
     same_room t s w q
-    (others_stay (keys.Defined q) key shares [] chain v (apart key q facility) ∙ ap (λ ds. delay_at ds (keys.Defined q)) chains)
+    (others_stay (keys.Defined q) key grants [] chain v (apart key q facility) ∙ ap (λ ds. delay_at ds (keys.Defined q)) chains)
     (no_less (content_at s.entities q) (content_at w.entities q) same) h
 
 untouched_room : (t : Listing) (s v : Machine) → v.delays ≡ s.delays → v.entities.storages ≡ s.entities.storages → NobodyHasRoom t s → NobodyHasRoom t v
@@ -182,29 +182,29 @@ untouched_room t s v chains storages h q =
 abbrev storages_of : Entities → List (Key × Store)
 storages_of e = e.storages
 
-deed_room : (t : Listing) (s v : Machine) (key : Key) (deed : Deed) (number : ℕ) → v.delays ≡ s.delays →
-    v.entities ≡ done key deed s.clock number s.entities → IsDecidedDeed t s key deed → AreCounted s → NobodyHasRoom t s →
-    NobodyHasRoom t (admitted key deed v)
-deed_room t s v key (deeds.Storage (of_storage.Enter units)) number chains entities decided counted h =
+update_room : (t : Listing) (s v : Machine) (key : Key) (update : Update) (number : ℕ) → v.delays ≡ s.delays →
+    v.entities ≡ done key update s.clock number s.entities → IsDecidedUpdate t s key update → AreCounted s → NobodyHasRoom t s →
+    NobodyHasRoom t (admitted key update v)
+update_room t s v key (updates.Storage (of_storage.Enter units)) number chains entities decided counted h =
     enter_room t s v decided.name units number chains
-    (entities ∙ ap (λ k. done k (deeds.Storage (of_storage.Enter units)) s.clock number s.entities) decided.named) counted h
-deed_room t s v key (deeds.Storage (of_storage.Leave units shares)) number chains entities decided counted h =
+    (entities ∙ ap (λ k. done k (updates.Storage (of_storage.Enter units)) s.clock number s.entities) decided.named) counted h
+update_room t s v key (updates.Storage (of_storage.Leave units grants)) number chains entities decided counted h =
     let name = decided.name in
     let content = content_at s.entities name - units in
     let chain = delay_at v.delays (keys.Defined name) in
-    let out = goes_out t s key units shares decided in
-    let shared : shares ≡ shares_of t name content chain =
-    out.0 ∙ ap (λ ds. shares_of t name content (delay_at ds (keys.Defined name))) (sym chains) in
+    let out = goes_out t s key units grants decided in
+    let shared : grants ≡ grants_of t name content chain =
+    out.0 ∙ ap (λ ds. grants_of t name content (delay_at ds (keys.Defined name))) (sym chains) in
     let behind =
     leave_room t s v name units number chain refl chains
     (entities
-    ∙ (ap (λ k. done k (deeds.Storage (of_storage.Leave units shares)) s.clock number s.entities) decided.named
-    ∙ ap (λ rs. done (keys.Defined name) (deeds.Storage (of_storage.Leave units rs)) s.clock number s.entities) shared)) counted h in
-    subst (λ k. NobodyHasRoom t (some_let_in k shares [] (delay_at v.delays k) v)) (sym decided.named)
+    ∙ (ap (λ k. done k (updates.Storage (of_storage.Leave units grants)) s.clock number s.entities) decided.named
+    ∙ ap (λ rs. done (keys.Defined name) (updates.Storage (of_storage.Leave units rs)) s.clock number s.entities) shared)) counted h in
+    subst (λ k. NobodyHasRoom t (some_let_in k grants [] (delay_at v.delays k) v)) (sym decided.named)
     (subst (λ rs. NobodyHasRoom t (some_let_in (keys.Defined name) rs [] chain v)) (sym shared) behind)
-deed_room t s v key (deeds.Facility (of_facility.Release next)) number chains entities decided counted h =
+update_room t s v key (updates.Facility (of_facility.Release next)) number chains entities decided counted h =
     facility_room t s v key (Some 1 ∷ []) (delay_at v.delays key) decided.0 chains (ap storages_of entities) h
-deed_room t s v key deed number chains entities decided counted h = untouched_room t s v chains (ap storages_of entities) h
+update_room t s v key update number chains entities decided counted h = untouched_room t s v chains (ap storages_of entities) h
 
 -- whoever is refused finds no room
 refused_room : (t : Listing) (s : Machine) (x : Transaction) (id : ℕ) (key : Key) (units : ℕ) → IsRefused t s key units → NobodyHasRoom t s →
@@ -237,7 +237,7 @@ moved_room t s (moves.Enter id change fate) decided counted h =
     with_active_has (NobodyHasRoom t) s.active (λ x. entering s x id change fate) s h
     (λ x is. entering_has (NobodyHasRoom t) t s x id change fate decided.1
     (λ v chains entities. untouched_room t s v chains (ap storages_of entities) h)
-    (λ v key deed chains entities does. deed_room t s v key deed x.number chains entities does counted h))
+    (λ v key update chains entities does. update_room t s v key update x.number chains entities does counted h))
 moved_room t s (moves.Refuse id key units) decided counted h =
     with_active_has (NobodyHasRoom t) s.active (λ x. refused s x id key units) s h (λ x is. refused_room t s x id key units decided.1 h)
 moved_room t s (moves.Watch read) decided counted h =

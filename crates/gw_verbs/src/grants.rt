@@ -1,11 +1,11 @@
-// The shares of a LEAVE: who of a delay chain is let in, and with how many units.
+// The grants of a LEAVE: who of a delay chain is let in, and with how many units.
 ghost use Rattle.std.specs.Prelude.{◌≡◌, [], option_copied};
 ghost use Rattle.gw_chains.specs.Chains.{items_of};
 ghost use Rattle.gw_entities.specs.Records.{capped};
-ghost use Rattle.gw_meaning.specs.Step.{beside, share_of, in_use, shares_prog, all_shares};
+ghost use Rattle.gw_meaning.specs.Step.{beside, grant_of, in_use, grants_prog, all_granted};
 ghost use Rattle.gw_asking.specs.Deciding.{Decides};
 
-use gw_asking::{Case, Notes, ask_fits};
+use gw_asking::{Notes, Run, ask_fits};
 use gw_chains::PriorityChain;
 use gw_expr::{Halt, Row};
 use gw_names::Name;
@@ -21,44 +21,44 @@ pub fn beside(units: u64, content: u64) -> u64
 // Each of a delay chain, where there is one, is let in from the front where its units fit beside those that are in use by
 // then.
 #[inline(always)]
-pub fn shares_of(
-    case: Case,
+pub fn grants_of(
+    run: Run,
     notes: &mut Notes,
     name: &Name,
     chain: Option<&PriorityChain>,
     content: u64,
 ) -> Result<Row<Option<u64>>, Halt>
-    ensures { Decides case.entry.version.now case.entry.seed
-        (shares_prog name.now content [] (items_of (option_copied chain.entry))) result notes.old notes.new }
+    ensures { Decides run.entry.version.now run.entry.seed
+        (grants_prog name.now content [] (items_of (option_copied chain.entry))) result notes.old notes.new }
 {
     match chain {
-        Some(chain) => shares_of_chain(case, notes, name, chain, content),
-        None => Ok(Row::from_vec(Vec::new(case.alloc))),
+        Some(chain) => grants_of_chain(run, notes, name, chain, content),
+        None => Ok(Row::from_vec(Vec::new(run.alloc))),
     }
 }
 
 #[inline(always)]
-fn shares_of_chain(
-    case: Case,
+fn grants_of_chain(
+    run: Run,
     notes: &mut Notes,
     name: &Name,
     chain: &PriorityChain,
     mut content: u64,
 ) -> Result<Row<Option<u64>>, Halt>
-    ensures { Decides case.entry.version.now case.entry.seed
-        (shares_prog name.now content [] chain.now.items) result notes.old notes.new }
+    ensures { Decides run.entry.version.now run.entry.seed
+        (grants_prog name.now content [] chain.now.items) result notes.old notes.new }
 {
-    let mut shares = Vec::new(case.alloc);
+    let mut grants = Vec::new(run.alloc);
     for i in 0..chain.len() {
         let Some(x) = chain.get(i) else {
             unreachable!()
         };
         let asked = u64::from(x.asked);
-        let fits = ask_fits(case.version, notes, name, beside(asked, content))?;
-        shares.push(share_of(asked, fits))?;
+        let fits = ask_fits(run.version, notes, name, beside(asked, content))?;
+        grants.push(grant_of(asked, fits))?;
         content = in_use(content, asked, fits);
     }
-    Ok(Row::from_vec(shares))
+    Ok(Row::from_vec(grants))
 }
 
 // The units in use after one who is let in where its units fit.
@@ -75,20 +75,20 @@ fn in_use(content: u64, units: u64, fits: bool) -> u64
 
 // The units with which one is let in, where they fit.
 #[inline(always)]
-fn share_of(units: u64, fits: bool) -> Option<u64>
-    ensures { result ≡ share_of units fits }
+fn grant_of(units: u64, fits: bool) -> Option<u64>
+    ensures { result ≡ grant_of units fits }
 {
     if fits { Some(units) } else { None }
 }
 
 // The units of those who are let in, 2^64 - 1 at most.
 #[inline(always)]
-pub fn all_shares(shares: &[Option<u64>]) -> u64
-    ensures { result ≡ capped (all_shares shares.now) }
+pub fn all_granted(grants: &[Option<u64>]) -> u64
+    ensures { result ≡ capped (all_granted grants.now) }
 {
     let mut sum: u64 = 0;
-    for share in shares {
-        if let Some(units) = share {
+    for grant in grants {
+        if let Some(units) = grant {
             sum = sum.saturating_add(*units);
         }
     }

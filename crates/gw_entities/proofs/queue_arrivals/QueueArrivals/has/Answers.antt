@@ -1,7 +1,7 @@
 use Rattle.std.proofs.Common.{ap, ◌∙◌}
 use Rattle.std.specs.Option.{is_some}
-use Rattle.gw_entities.proofs.ComingLaws.{came_is}
-use Rattle.gw_entities.proofs.comings.Comings.has.Goals as goal
+use Rattle.gw_entities.proofs.QueueArrivalLaws.{came_is}
+use Rattle.gw_entities.proofs.queue_arrivals.QueueArrivals.has.Goals as goal
 
 pub returns : goal.returns
 returns c =

@@ -1,10 +1,10 @@
 use Rattle.std.proofs.Common.{map, ap, sym, subst, ◌∙◌}
-use Rattle.gw_entities.specs.Comings.{coming_of, AreOnce}
+use Rattle.gw_entities.specs.QueueArrivals.{queue_arrival_of, AreOnce}
 use Rattle.gw_entities.specs.Owned.{AreRising}
-use Rattle.gw_entities.proofs.ComingLaws.{with_coming_is, once_with}
+use Rattle.gw_entities.proofs.QueueArrivalLaws.{with_queue_arrival_is, once_with}
 use Rattle.gw_entities.proofs.ItemLaws.{some_key}
 use Rattle.gw_entities.proofs.OwnLaws.{rising_with}
-use Rattle.gw_entities.proofs.comings.Comings.add.Goals as goal
+use Rattle.gw_entities.proofs.queue_arrivals.QueueArrivals.add.Goals as goal
 
 pub invariant_of-self : goal.invariant_of-self
 invariant_of-self c =
@@ -14,10 +14,10 @@ invariant_of-self c =
     let (rising, once) = c.self.invariant in
     let now = c.put.ensures.entries k at in (
       subst AreRising (sym now) (rising_with c.args.number k tt es rising),
-      subst AreOnce (sym (ap (λ l. map coming_of l) now ∙ with_coming_is es k c.args.number tt)) (once_with es k c.args.number rising once),
+      subst AreOnce (sym (ap (λ l. map queue_arrival_of l) now ∙ with_queue_arrival_is es k c.args.number tt)) (once_with es k c.args.number rising once),
     )
 
 pub returns : goal.returns
 returns c =
     rw (← c.self.view_is) (λ k at.
-    ap (λ l. map coming_of l) (c.put.ensures.entries k at) ∙ with_coming_is c.self.inside.own.entries k c.args.number tt)
+    ap (λ l. map queue_arrival_of l) (c.put.ensures.entries k at) ∙ with_queue_arrival_is c.self.inside.own.entries k c.args.number tt)
