@@ -167,7 +167,7 @@ impl<V: Copy> OwnList<V> {
     }
 
     // Makes room for so many more by keys that are there.
-    pub fn reserve_known(&mut self, count: usize) -> Result<(), AllocError>
+    pub(crate) fn reserve_known(&mut self, count: usize) -> Result<(), AllocError>
         ensures room { OnOk result (count ≤ self.new.room) }
         ensures keys { self.new.keys ≡ self.old.keys }
         ensures entries { self.new.entries ≡ self.old.entries }

@@ -19,7 +19,7 @@ pub fn atom_of(alloc: Global, text: &[u8]) -> Result<Option<Atom>, AllocError>
 }
 
 /// What was read of a text, or the attribute that it is.
-pub fn or_attribute(
+pub(crate) fn or_attribute(
     alloc: Global,
     read: Option<Atom>,
     text: &[u8],

@@ -24,7 +24,7 @@ pub enum Scope {
 
 /// The attribute that a text in upper case is.
 #[tactic(auto, unfolding(crate::specs::Attributes::attribute_of))]
-pub fn read_attribute(alloc: Global, text: &[u8]) -> Result<Option<Atom>, AllocError>
+pub(crate) fn read_attribute(alloc: Global, text: &[u8]) -> Result<Option<Atom>, AllocError>
     ensures { IfOk result (λ o. o ≡ attribute_of text.now) }
 {
     attribute_in(alloc, &CLASSES, text)

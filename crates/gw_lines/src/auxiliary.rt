@@ -37,7 +37,7 @@ fn operator_fault(text: &[u8]) -> LineFault
 }
 
 /// Whether an operator stands in front of the verb's operands.
-pub fn takes_operator(verb: Verb) -> bool
+pub(crate) fn takes_operator(verb: Verb) -> bool
     ensures { result ≡ takes_operator verb }
 {
     !operators(verb).is_empty()
@@ -124,7 +124,7 @@ fn sign_of(verb: Verb, text: &[u8]) -> Auxiliary
 }
 
 /// A list without the sign after its first operand.
-pub fn without_sign(alloc: Global, text: &[u8]) -> Result<Vec<u8>, AllocError>
+pub(crate) fn without_sign(alloc: Global, text: &[u8]) -> Result<Vec<u8>, AllocError>
     ensures { IfOk result (λ v. v.items ≡ cut_off (front_of class.Operand text.now) (rest_of class.Operand text.now)) }
 {
     let (operand, others) = span(Class::Operand, text);

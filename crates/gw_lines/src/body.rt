@@ -19,7 +19,7 @@ use std::alloc::{AllocError, Global};
 
 /// The body that a verb's text spells: its operator and its operand list, in upper case and without skipped blanks.
 #[tactic(auto, unfolding(crate::specs::Bodies::body_of))]
-pub fn read_body(alloc: Global, verb: Verb, text: &[u8]) -> Result<Body, LineFault>
+pub(crate) fn read_body(alloc: Global, verb: Verb, text: &[u8]) -> Result<Body, LineFault>
     ensures { Gives (λ b. b) result (body_of verb text.now) }
 {
     let auxiliary = auxiliary_of(verb, text)?;

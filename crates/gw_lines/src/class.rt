@@ -93,7 +93,7 @@ fn tail(bytes: &[u8]) -> &[u8]
 }
 
 /// The first piece of a text, and what follows its end.
-pub fn first_piece(class: Class, text: &[u8]) -> (&[u8], &[u8])
+pub(crate) fn first_piece(class: Class, text: &[u8]) -> (&[u8], &[u8])
     ensures pieces { text.now ≢ [] → pieces_of class text.now ≡ result.0.now ∷ pieces_of class result.1.now }
     ensures none { text.now ≡ [] → (result.0.now ≡ []) × (result.1.now ≡ []) }
     ensures shorter { text.now ≢ [] → length result.1.now < length text.now }
@@ -103,7 +103,7 @@ pub fn first_piece(class: Class, text: &[u8]) -> (&[u8], &[u8])
 }
 
 /// Whether each byte may stand outside comments.
-pub fn are_plain(text: &[u8]) -> bool
+pub(crate) fn are_plain(text: &[u8]) -> bool
     ensures { result ≡ are_plain text.now }
 {
     text.iter().all(|b| *b < 128)

@@ -49,7 +49,7 @@ impl Model for Reader {
 }
 
 /// The expression in parentheses that a text in upper case is.
-pub fn read_expression(alloc: Global, text: &[u8]) -> Result<Option<Expr>, AllocError>
+pub(crate) fn read_expression(alloc: Global, text: &[u8]) -> Result<Option<Expr>, AllocError>
     ensures { IfOk result (λ o. o ≡ computed_of text.now) }
 {
     match inside(text) {
@@ -59,7 +59,7 @@ pub fn read_expression(alloc: Global, text: &[u8]) -> Result<Option<Expr>, Alloc
 }
 
 /// The expression that a text in upper case is, without parentheses around the whole.
-pub fn read_bare(alloc: Global, text: &[u8]) -> Result<Option<Expr>, AllocError>
+pub(crate) fn read_bare(alloc: Global, text: &[u8]) -> Result<Option<Expr>, AllocError>
     ensures { IfOk result (λ o. o ≡ bare_of text.now) }
 {
     computed(read_tokens(alloc, 0, text)?)

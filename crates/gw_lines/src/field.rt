@@ -43,7 +43,7 @@ pub fn value_in(operand: Option<Operand>) -> Option<Expr>
 }
 
 /// An operand as a whole number.
-pub fn whole_in(operand: Option<&Operand>) -> Option<u32>
+pub(crate) fn whole_in(operand: Option<&Operand>) -> Option<u32>
     ensures { result ≡ whole_in (option_copied operand.entry) }
 {
     match operand {
@@ -53,7 +53,7 @@ pub fn whole_in(operand: Option<&Operand>) -> Option<u32>
 }
 
 /// An operand as a FUNCTION's type and its number of points.
-pub fn points_in(operand: Option<&Operand>) -> Option<(FunctionType, u32)>
+pub(crate) fn points_in(operand: Option<&Operand>) -> Option<(FunctionType, u32)>
     ensures { result ≡ points_in (option_copied operand.entry) }
 {
     match operand {
@@ -63,7 +63,7 @@ pub fn points_in(operand: Option<&Operand>) -> Option<(FunctionType, u32)>
 }
 
 /// An operand as a constant.
-pub fn constant_in(operand: Option<&Operand>) -> Option<Val>
+pub(crate) fn constant_in(operand: Option<&Operand>) -> Option<Val>
     ensures { result ≡ constant_in (option_copied operand.entry) }
 {
     match operand {
@@ -84,7 +84,7 @@ fn constant_of(value: &Expr) -> Option<Val>
 }
 
 /// The classes of a TABLE that the operands after its first one make, if they make some.
-pub fn classes_in(operands: &[Option<Operand>]) -> Option<Classes>
+pub(crate) fn classes_in(operands: &[Option<Operand>]) -> Option<Classes>
     ensures { result ≡ classes_in operands.now }
 {
     match operands {
@@ -105,7 +105,7 @@ fn classes_of(first: Option<Val>, width: Option<u32>, count: Option<u32>) -> Opt
 
 /// Whether the fourth operand, which is lawful by itself, does not go with those before it: of a TABLE it is the number
 /// of the classes.
-pub fn misfits(verb: Verb, operands: &[Option<Operand>]) -> bool
+pub(crate) fn misfits(verb: Verb, operands: &[Option<Operand>]) -> bool
     ensures { result ≡ misfits verb operands.now }
 {
     match verb {

@@ -55,7 +55,7 @@ pub struct Form {
 
 /// The forms of a verb's operands, which each verb has, by what was read before: what stands beside the operands, and
 /// whether the first operand is given.
-pub fn forms_of(verb: Verb, beside: Auxiliary, given: bool) -> Option<&'static [Form]>
+pub(crate) fn forms_of(verb: Verb, beside: Auxiliary, given: bool) -> Option<&'static [Form]>
     ensures forms { option_copied result ≡ forms_of verb beside given }
     ensures few { IfSome result (λ f. length f.now ≤ 7) }
 {
@@ -127,7 +127,7 @@ fn asks_storage(beside: Auxiliary) -> bool
 }
 
 /// The forms of a definition's operands, which each definition has.
-pub fn forms_of_definition(verb: DefinitionVerb) -> Option<&'static [Form]>
+pub(crate) fn forms_of_definition(verb: DefinitionVerb) -> Option<&'static [Form]>
     ensures forms { option_copied result ≡ forms_of_definition verb }
     ensures few { IfSome result (λ f. length f.now ≤ 7) }
 {
@@ -266,7 +266,7 @@ fn is_absent(operands: &[Option<Operand>], place: usize) -> bool
 
 impl Presence {
     /// Whether the statement lists the operand: more says that the list goes on here.
-    pub fn is_listed(self, more: bool) -> bool
+    pub(crate) fn is_listed(self, more: bool) -> bool
         ensures { result ≡ is_listed self more }
     {
         match self {
@@ -276,7 +276,7 @@ impl Presence {
     }
 
     /// Whether the statement must have the operand.
-    pub fn is_required(self) -> bool
+    pub(crate) fn is_required(self) -> bool
         ensures { result ≡ is_required self }
     {
         match self {

@@ -15,7 +15,7 @@ pub const LONGEST: usize = 250;
 
 /// The statement that a line's text spells, or its first fault. A blank or a comment spells none, and a FUNCTION has no
 /// points yet.
-pub fn read_first(alloc: Global, text: &[u8]) -> Result<Statement, LineFault>
+pub(crate) fn read_first(alloc: Global, text: &[u8]) -> Result<Statement, LineFault>
     // What is read is spelled so.
     ensures found { IfOk result (λ s. Spells text.now s) }
     // What is spelled so is read, unless it is out of memory.
@@ -70,7 +70,7 @@ pub fn code(line: &[u8]) -> &[u8]
 }
 
 /// Whether there is no statement: nothing, or a comment.
-pub fn is_remark(code: &[u8]) -> bool
+pub(crate) fn is_remark(code: &[u8]) -> bool
     ensures { result ≡ is_remark code.now }
 {
     match code {
@@ -81,7 +81,7 @@ pub fn is_remark(code: &[u8]) -> bool
 
 /// What follows a line number: digits with a blank after them.
 #[tactic(auto, unfolding(crate::specs::Lines::behind_number))]
-pub fn behind_number(code: &[u8]) -> &[u8]
+pub(crate) fn behind_number(code: &[u8]) -> &[u8]
     ensures { result.now ≡ behind_number code.now }
 {
     let (digits, rest) = span(Class::Digit, code);

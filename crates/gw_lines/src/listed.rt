@@ -46,7 +46,7 @@ fn depth_behind(b: u8, depth: usize) -> usize
 }
 
 /// How many are open after a closing one.
-pub fn shallower(depth: usize) -> usize
+pub(crate) fn shallower(depth: usize) -> usize
     ensures { result ≡ shallower depth }
 {
     match depth {

@@ -44,7 +44,7 @@ fn number_after(most: u64, first: u64, text: &[u8]) -> Option<u64>
 }
 
 /// The number from 1 that digits spell, if it is at most `most`.
-pub fn from_one(most: u32, text: &[u8]) -> Option<u32>
+pub(crate) fn from_one(most: u32, text: &[u8]) -> Option<u32>
     ensures value { result ≡ from_one (number_of most text.now) }
     ensures bound { IfSome result (λ n. n ≤ most) }
 {
@@ -80,7 +80,7 @@ pub fn fraction(text: &[u8]) -> Option<u32>
 
 /// The number of a point that a text spells: digits with a point or without one, six of them at most after it, with
 /// one `-` before them or none, from -1,000,000,000 to 1,000,000,000.
-pub fn coordinate(text: &[u8]) -> Option<Millionths>
+pub(crate) fn coordinate(text: &[u8]) -> Option<Millionths>
     ensures { result ≡ coordinate_of text.now }
 {
     match text {

@@ -12,7 +12,7 @@ use gw_nums::Val;
 use std::alloc::{AllocError, Global};
 
 /// The most points that a FUNCTION has.
-pub const MOST_POINTS: u32 = 1_000;
+pub(crate) const MOST_POINTS: u32 = 1_000;
 
 /// An operand that was read.
 #[derive(Drop)]
@@ -24,7 +24,7 @@ pub enum Operand {
 
 /// The operand that a text of this kind is: `None` where it is not lawful, and no operand where it is empty or says
 /// nothing.
-pub fn operand_in(
+pub(crate) fn operand_in(
     alloc: Global,
     kind: Kind,
     text: &[u8],

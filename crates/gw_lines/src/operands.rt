@@ -15,7 +15,7 @@ use std::alloc::Global;
 /// lawful is the fault, then the fourth where it does not go with those before it, then one that is beyond the forms,
 /// then the first that is required and absent.
 #[tactic(auto, unfolding(crate::specs::Operands::operands_of))]
-pub fn read_operands(
+pub(crate) fn read_operands(
     alloc: Global,
     verb: Verb,
     forms: &[Form],

@@ -15,7 +15,7 @@ use std::alloc::{AllocError, Global};
 use std::mem;
 
 /// Whether a statement wants pairs on further lines: it is a FUNCTION that misses points.
-pub fn wants_pairs(statement: &Statement) -> bool
+pub(crate) fn wants_pairs(statement: &Statement) -> bool
     ensures { result ≡ wants_pairs statement.now }
 {
     match &statement.body {
@@ -36,7 +36,7 @@ fn has_room(count: u32, points: &[Point]) -> bool
 /// stands after those before it: an x that is not above the last one, one pair too many, or what is no pair is
 /// `BadPairs`. After a fault the statement may lack what it had.
 #[tactic(auto, unfolding(crate::specs::Pairs::further_of))]
-pub fn read_further(alloc: Global, statement: &mut Statement, line: &[u8]) -> Result<(), LineFault>
+pub(crate) fn read_further(alloc: Global, statement: &mut Statement, line: &[u8]) -> Result<(), LineFault>
     ensures { Gives (λ u. statement.new) result (further_of statement.old line.now) }
 {
     match read_kept(alloc, line)? {
@@ -47,7 +47,7 @@ pub fn read_further(alloc: Global, statement: &mut Statement, line: &[u8]) -> Re
 
 /// Points with those of a further line, where any count may be meant; the last line has pairs.
 #[tactic(auto, unfolding(crate::specs::Pairs::open_line))]
-pub fn read_open(
+pub(crate) fn read_open(
     alloc: Global,
     points: Vec<Point>,
     line: &[u8],
@@ -64,7 +64,7 @@ pub fn read_open(
 
 /// What is kept of a line of pairs, as of an operand list: nothing of a blank line or a comment.
 #[tactic(auto, unfolding(crate::specs::Pairs::kept_of))]
-pub fn read_kept(alloc: Global, line: &[u8]) -> Result<Option<Vec<u8>>, LineFault>
+pub(crate) fn read_kept(alloc: Global, line: &[u8]) -> Result<Option<Vec<u8>>, LineFault>
     ensures { Gives (λ o. option_map (λ v. v.items) o) result (kept_of line.now) }
 {
     if line.len() > LONGEST {

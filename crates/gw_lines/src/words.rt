@@ -18,7 +18,7 @@ use std::alloc::{AllocError, Global};
 
 /// The statement that code spells, after a line number and without its comment.
 #[tactic(auto, unfolding(crate::specs::Lines::coded_of))]
-pub fn read_code(alloc: Global, code: &[u8]) -> Result<Statement, LineFault>
+pub(crate) fn read_code(alloc: Global, code: &[u8]) -> Result<Statement, LineFault>
     ensures { Gives (λ s. s) result (coded_of code.now) }
 {
     let (first, behind) = word(code);
@@ -33,7 +33,7 @@ pub fn read_code(alloc: Global, code: &[u8]) -> Result<Statement, LineFault>
 }
 
 /// Whether the verb among the first two words of code is FUNCTION.
-pub fn names_function(alloc: Global, code: &[u8]) -> Result<bool, AllocError>
+pub(crate) fn names_function(alloc: Global, code: &[u8]) -> Result<bool, AllocError>
     ensures { IfOk result (λ b. b ≡ is_function (verb_of_words code.now)) }
 {
     let (first, behind) = word(code);

@@ -5,19 +5,19 @@ use gw_meaning::{Numbered, Replication};
 use gw_nums::LAST_CLOCK;
 
 /// The most statements of a version.
-pub const MOST_STATEMENTS: usize = 2_000;
+pub(crate) const MOST_STATEMENTS: usize = 2_000;
 
 /// The most replications of a version.
-pub const MOST_REPLICATIONS: usize = 32;
+pub(crate) const MOST_REPLICATIONS: usize = 32;
 
 /// The greatest seed; the least is 1.
-pub const LAST_SEED: u64 = 2_147_483_646;
+pub(crate) const LAST_SEED: u64 = 2_147_483_646;
 
 /// The greatest number of a replication; the least is 1.
-pub const LAST_REPLICATION: u64 = 1_000_000_000;
+pub(crate) const LAST_REPLICATION: u64 = 1_000_000_000;
 
 /// The greatest step limit; the least is 1.
-pub const LAST_LIMIT: u64 = 1_000_000;
+pub(crate) const LAST_LIMIT: u64 = 1_000_000;
 
 /// Whether there are more statements or replications than a version may have.
 pub fn is_too_long(lines: &[Numbered], replications: &[Replication]) -> bool

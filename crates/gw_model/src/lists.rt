@@ -33,14 +33,14 @@ pub fn commands_of(alloc: Global, lines: &[Numbered]) -> Result<Vec<Command>, Al
 }
 
 /// The number of STARTs.
-pub fn count_starts(commands: &[Command]) -> u64
+pub(crate) fn count_starts(commands: &[Command]) -> u64
     ensures { result ≡ length (filter is_start commands.now) }
 {
     commands.iter().filter(|command| is_start(command)).count() as u64
 }
 
 /// The ids of the GENERATEs, in order.
-pub fn generates_of(alloc: Global, lines: &[Numbered]) -> Result<Vec<StatementId>, AllocError>
+pub(crate) fn generates_of(alloc: Global, lines: &[Numbered]) -> Result<Vec<StatementId>, AllocError>
     ensures { IfOk result (λ numbers. numbers.items ≡ generates_in lines.now) }
 {
     let mut numbers = Vec::new(alloc);
@@ -53,7 +53,7 @@ pub fn generates_of(alloc: Global, lines: &[Numbered]) -> Result<Vec<StatementId
 }
 
 /// Whether one of the statements is an EQU.
-pub fn any_is_equ(lines: &[Numbered]) -> bool
+pub(crate) fn any_is_equ(lines: &[Numbered]) -> bool
     ensures { result ≡ list_any is_equ lines.now }
 {
     lines.iter().any(|line| is_equ(line))

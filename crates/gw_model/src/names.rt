@@ -27,7 +27,7 @@ pub struct Names {
 
 /// What the labels of these lines stand for. No two blocks or definitions may have one label, and what an operand that
 /// is evaluated names must be there: a label must be that of a block, and a definition must be of its kind.
-pub fn sound_names(alloc: Global, lines: &[Numbered]) -> Result<Names, ModelFault>
+pub(crate) fn sound_names(alloc: Global, lines: &[Numbered]) -> Result<Names, ModelFault>
     ensures labels { IfOk result (λ names. (name : List ℕ) →
         tree.get (slice_cmp nat_cmp) names.labels name ≡ labelled_in name lines.now) }
     ensures definitions { IfOk result (λ names. (name : List ℕ) →

@@ -18,7 +18,7 @@ pub struct Place {
 }
 
 /// For each statement id the place of the first statement with it.
-pub fn places_of(alloc: Global, lines: &[Numbered]) -> Result<Vec<Place>, AllocError>
+pub(crate) fn places_of(alloc: Global, lines: &[Numbered]) -> Result<Vec<Place>, AllocError>
     requires { length lines.now ≤ 2000 }
     ensures { IfOk result (λ table. (number : ℕ) → get_or table.items number nowhere ≡ place_in 0 0 lines.now number) }
 {
@@ -101,7 +101,7 @@ fn block_at<'a>(lines: &'a [Numbered], place: &Place) -> Option<&'a Block>
 
 /// The id of the block after the block with this id.
 #[inline(always)]
-pub fn after_of(table: &[Place], id: StatementId) -> Option<StatementId>
+pub(crate) fn after_of(table: &[Place], id: StatementId) -> Option<StatementId>
     ensures { result ≡ (get_or table.now id nowhere).after }
 {
     match table.get(id.number() as usize) {

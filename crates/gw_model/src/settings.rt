@@ -10,7 +10,7 @@ use gw_nums::Time;
 
 /// The horizon of a version with these settings, or its first fault, in the order M5, M6, M7. Only the faults of
 /// labels and of the names of definitions, M1 to M4, are left to look for.
-pub fn checked_horizon(
+pub(crate) fn checked_horizon(
     lines: &[Numbered],
     horizon: u64,
     replications: &[Replication],

@@ -14,7 +14,7 @@ use itoa::Buffer;
 use std::alloc::{AllocError, Global};
 
 /// Appends the lines of the classes of these values, where there are classes.
-pub fn put_classes(
+pub(crate) fn put_classes(
     out: &mut Sheet,
     alloc: Global,
     classes: Option<Classes>,

@@ -29,7 +29,7 @@ pub enum Cell<'a> {
 }
 
 /// Appends a row: its cells in their columns.
-pub fn put_row(sheet: &mut Sheet, columns: &[Column], cells: &[Cell]) -> Result<(), AllocError>
+pub(crate) fn put_row(sheet: &mut Sheet, columns: &[Column], cells: &[Cell]) -> Result<(), AllocError>
     ensures { OnOk result (sheet.new ≡ sheet.old ++ row_of (map column_of columns.now) (map text_of_cell cells.now)) }
 {
     sheet.make_room()?;
@@ -57,7 +57,7 @@ fn put_cell(sheet: &mut Sheet, gap: usize, column: &Column, cell: &Cell) -> Resu
 }
 
 /// Appends a cell after a gap: a number.
-pub fn put_number(
+pub(crate) fn put_number(
     sheet: &mut Sheet,
     gap: usize,
     width: usize,
@@ -92,7 +92,7 @@ fn put_signed(
 }
 
 /// Appends a cell after a gap: a number of thousandths, in three decimals.
-pub fn put_thousandths(
+pub(crate) fn put_thousandths(
     sheet: &mut Sheet,
     gap: usize,
     width: usize,

@@ -7,7 +7,7 @@ use gw_names::Key;
 use gw_nums::thousandths;
 
 /// What an entity is called.
-pub fn key_cell(key: &Key) -> Cell<'_>
+pub(crate) fn key_cell(key: &Key) -> Cell<'_>
     ensures { text_of_cell result ≡ key_text key.now }
 {
     match key {
@@ -17,7 +17,7 @@ pub fn key_cell(key: &Key) -> Cell<'_>
 }
 
 /// A sum divided by what it goes over.
-pub fn average_cell(sum: u128, over: u128) -> Cell<'static>
+pub(crate) fn average_cell(sum: u128, over: u128) -> Cell<'static>
     requires { sum ≤ 10 ^ 35 }
     ensures { text_of_cell result ≡ average sum over }
 {

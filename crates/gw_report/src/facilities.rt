@@ -28,7 +28,7 @@ const FACILITY_COLUMNS: [Column; 10] = [
 ];
 
 /// Appends the facilities, in order of first touch. The delay chains are those of the state.
-pub fn put_facilities(
+pub(crate) fn put_facilities(
     out: &mut Vec<u8>,
     state: &State,
     delays: &DelayChains,

@@ -10,7 +10,7 @@ use itoa::write_digits;
 
 /// Lays out a text on one side of a cell in which it fits.
 #[inline(always)]
-pub fn lay_text(line: &mut [u8], from: usize, end: usize, side: Side, text: &[u8])
+pub(crate) fn lay_text(line: &mut [u8], from: usize, end: usize, side: Side, text: &[u8])
     requires order { (from ≤ end) × (end ≤ length line.old) }
     requires fits { length text.now ≤ end - from }
     requires blank { drop from line.old ≡ blanks (length line.old - from) }
@@ -25,7 +25,7 @@ pub fn lay_text(line: &mut [u8], from: usize, end: usize, side: Side, text: &[u8
 
 /// Lays out a number on the right of a cell in which it fits.
 #[inline(always)]
-pub fn lay_number(line: &mut [u8], from: usize, end: usize, number: u64)
+pub(crate) fn lay_number(line: &mut [u8], from: usize, end: usize, number: u64)
     requires order { (from ≤ end) × (end ≤ length line.old) }
     requires fits { length (decimal number) ≤ end - from }
     requires blank { drop from line.old ≡ blanks (length line.old - from) }

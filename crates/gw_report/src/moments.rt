@@ -24,7 +24,7 @@ pub fn sum_of(numbers: &[i32]) -> i64
 }
 
 /// The sum of their squares.
-pub fn squares_of(numbers: &[i32]) -> u128
+pub(crate) fn squares_of(numbers: &[i32]) -> u128
     requires values { AreValues numbers.now }
     requires few { length numbers.now < 2 ^ 32 }
     ensures value { result ≡ squares_of numbers.now }
@@ -39,7 +39,7 @@ pub fn squares_of(numbers: &[i32]) -> u128
 }
 
 /// The mean of so many values with this sum, in three decimals.
-pub fn mean_text(alloc: Global, sum: i64, count: u64) -> Result<Vec<u8>, AllocError>
+pub(crate) fn mean_text(alloc: Global, sum: i64, count: u64) -> Result<Vec<u8>, AllocError>
     ensures { IfOk result (λ text. text.items ≡ mean_text sum count) }
 {
     let mean = thousandths(u128::from(sum.unsigned_abs()), u128::from(count));
@@ -55,7 +55,7 @@ pub fn mean_text(alloc: Global, sum: i64, count: u64) -> Result<Vec<u8>, AllocEr
 
 /// The standard deviation of so many values, in thousandths, by their sum and that of their squares. What remains of the
 /// division by their number is taken apart, since 1,000,000 times the whole may not fit.
-pub fn deviation(count: u64, sum: i64, squares: u128) -> u128
+pub(crate) fn deviation(count: u64, sum: i64, squares: u128) -> u128
     requires few { count < 2 ^ 32 }
     requires sum { magnitude sum ≤ count * 1000000000 }
     requires squares { squares ≤ count * 1000000000000000000 }

@@ -25,7 +25,7 @@ const NAME_COLUMNS: [Column; 2] = [Column(10, Side::Left), Column(10, Side::Righ
 const FIRST_VALUE: u64 = 10_000;
 
 /// Appends the names, each once, in order of first appearance.
-pub fn put_names(out: &mut Vec<u8>, version: &Version) -> Result<(), AllocError>
+pub(crate) fn put_names(out: &mut Vec<u8>, version: &Version) -> Result<(), AllocError>
     ensures { OnOk result (out.new.items ≡ out.old.items ++ names_text version.now) }
 {
     let alloc = *out.allocator();

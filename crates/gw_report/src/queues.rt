@@ -25,7 +25,7 @@ const QUEUE_COLUMNS: [Column; 9] = [
 ];
 
 /// Appends the queues, in order of first touch.
-pub fn put_queues(out: &mut Vec<u8>, state: &State) -> Result<(), AllocError>
+pub(crate) fn put_queues(out: &mut Vec<u8>, state: &State) -> Result<(), AllocError>
     ensures { OnOk result (out.new.items ≡ out.old.items ++ queues_text state.now) }
 {
     let lines = queue_lines(*out.allocator(), state)?;

@@ -4,7 +4,7 @@ ghost use Rattle.gw_report.specs.Cells.{under_heading, if_any};
 use std::alloc::AllocError;
 
 /// Appends a section that always appears: an empty line, the heading and the lines.
-pub fn put_table(out: &mut Vec<u8>, heading: &[u8], lines: &[u8]) -> Result<(), AllocError>
+pub(crate) fn put_table(out: &mut Vec<u8>, heading: &[u8], lines: &[u8]) -> Result<(), AllocError>
     ensures { OnOk result (out.new.items ≡ out.old.items ++ under_heading heading.now lines.now) }
 {
     out.push(b'\n')?;
@@ -13,7 +13,7 @@ pub fn put_table(out: &mut Vec<u8>, heading: &[u8], lines: &[u8]) -> Result<(), 
 }
 
 /// Appends a section, where it has a line.
-pub fn put_section(out: &mut Vec<u8>, heading: &[u8], lines: &[u8]) -> Result<(), AllocError>
+pub(crate) fn put_section(out: &mut Vec<u8>, heading: &[u8], lines: &[u8]) -> Result<(), AllocError>
     ensures { OnOk result (out.new.items ≡ out.old.items ++ if_any heading.now lines.now) }
 {
     match lines {

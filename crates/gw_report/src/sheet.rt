@@ -96,7 +96,7 @@ impl Sheet {
 
     /// Appends a cell after a gap: a number on the right of a width.
     #[inline(always)]
-    pub fn put_number(&mut self, gap: usize, width: usize, number: u64) -> Result<(), AllocError>
+    pub(crate) fn put_number(&mut self, gap: usize, width: usize, number: u64) -> Result<(), AllocError>
         requires { gap ≤ 1 }
         ensures { OnOk result (self.new ≡ self.old ++ (blanks gap ++ fitted Right width (decimal number))) }
     {
@@ -127,7 +127,7 @@ impl Sheet {
 
     /// Appends a cell after a gap: a number with its sign on the right of a width.
     #[inline(always)]
-    pub fn put_signed(&mut self, gap: usize, width: usize, value: Val) -> Result<(), AllocError>
+    pub(crate) fn put_signed(&mut self, gap: usize, width: usize, value: Val) -> Result<(), AllocError>
         requires { gap ≤ 1 }
         ensures { OnOk result (self.new ≡ self.old ++ (blanks gap ++ fitted Right width (signed value))) }
     {
@@ -154,7 +154,7 @@ impl Sheet {
 
     /// Ends the row.
     #[inline(always)]
-    pub fn end_row(&mut self) -> Result<(), AllocError>
+    pub(crate) fn end_row(&mut self) -> Result<(), AllocError>
         ensures { OnOk result (self.new ≡ self.old ++ 10 ∷ []) }
     {
         self.put_text(0, 1, Side::Left, b"\n")
@@ -163,7 +163,7 @@ impl Sheet {
     /// Appends a cell after a gap, a text of two parts, without writing it over the blanks, which are cut off.
     #[cold]
     #[inline(never)]
-    pub fn put_apart(
+    pub(crate) fn put_apart(
         &mut self,
         gap: usize,
         width: usize,

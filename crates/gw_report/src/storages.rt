@@ -32,7 +32,7 @@ const STORAGE_COLUMNS: [Column; 11] = [
 
 /// Appends the storages, in order of first touch, with the units that the version gives them. The delay chains are
 /// those of the state.
-pub fn put_storages(
+pub(crate) fn put_storages(
     out: &mut Vec<u8>,
     version: &Version,
     state: &State,

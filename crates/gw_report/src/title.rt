@@ -6,7 +6,7 @@ use gw_nums::put_decimal;
 use std::alloc::AllocError;
 
 /// Appends the first line: the replication, its seed, the START, and how that stands.
-pub fn put_title(
+pub(crate) fn put_title(
     out: &mut Vec<u8>,
     rep: u64,
     seed: u64,

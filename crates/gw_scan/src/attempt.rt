@@ -24,7 +24,7 @@ use gw_verbs::{
 
 // The active transaction tries the block that it goes to, or else the one after its own; where none is active, the
 // scan goes on.
-pub fn attempt<R: Course>(course: &mut R, run: Run, notes: &mut Notes) -> Result<(), Halt>
+pub(crate) fn attempt<R: Course>(course: &mut R, run: Run, notes: &mut Notes) -> Result<(), Halt>
     requires { 0 < (R.machine course.old).remaining }
     ensures { Goes R.makes run.entry.version.now run.entry.seed
         (scan_prog (R.machine course.old) (R.machine course.old).active)

@@ -12,7 +12,7 @@ use gw_values::{Context, arrivals, for_none};
 // No START is under way: the next command.
 #[cold]
 #[inline(never)]
-pub fn decide_command(state: &State, run: Run, notes: &mut Notes) -> Result<Move, Halt>
+pub(crate) fn decide_command(state: &State, run: Run, notes: &mut Notes) -> Result<Move, Halt>
     ensures { Decides run.entry.version.now run.entry.seed (move_prog state.now 0) result notes.old notes.new }
 {
     let next = state.commands().saturating_add(1);

@@ -8,7 +8,7 @@ use gw_meaning::Move;
 
 // The course takes the move that was decided; or it is told why there is none.
 #[inline(always)]
-pub fn hand_on<C: Course>(
+pub(crate) fn hand_on<C: Course>(
     decided: Result<Move, Halt>,
     course: &mut C,
     run: Run,

@@ -9,7 +9,7 @@ use gw_state::State;
 
 // The first of the current chain, or else the clock.
 #[inline(always)]
-pub fn decide_scan(state: &State, run: Run, notes: &mut Notes) -> Result<Move, Halt>
+pub(crate) fn decide_scan(state: &State, run: Run, notes: &mut Notes) -> Result<Move, Halt>
     ensures { Decides run.entry.version.now run.entry.seed (pick_prog state.now state.now.current)
         result notes.old notes.new }
 {

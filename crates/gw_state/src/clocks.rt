@@ -46,7 +46,7 @@ impl Clocks {
     }
 
     /// The absolute clock moves on.
-    pub fn advance(&mut self, clock: Clock)
+    pub(crate) fn advance(&mut self, clock: Clock)
         ensures { self.new ≡ record self.old { clock = clock } }
     {
         self.clock = clock;

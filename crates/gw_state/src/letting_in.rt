@@ -17,7 +17,7 @@ impl Parts {
     // Makes room to let in those of the delay chain of a key whom an update lets in, beside that for so many others which is
     // there. Nobody moves.
     #[inline(always)]
-    pub fn reserve_to_admit(
+    pub(crate) fn reserve_to_admit(
         &mut self,
         key: &Key,
         update: &Update,
@@ -101,7 +101,7 @@ impl Parts {
     // Those of the delay chain of a key whom an update lets in go to the current chain, one by one from the front: of a
     // facility the first, of a storage each with a grant.
     #[inline(always)]
-    pub fn admit(&mut self, key: &Key, update: &Update)
+    pub(crate) fn admit(&mut self, key: &Key, update: &Update)
         requires { HasRoomToAdmit key.now update.now self.old.delays self.old.current.room self.old.counts.limit }
         ensures admitted { machine_of self.new ≡ admitted key.now update.now (machine_of self.old) }
         ensures room { self.old.current.room ≤ self.new.current.room + length (going key.now update.now self.old.delays) }

@@ -11,7 +11,7 @@ use gw_nums::Time;
 impl Parts {
     // A new transaction is put on the future chain.
     #[inline(never)]
-    pub fn create(&mut self, arrival: Arrival)
+    pub(crate) fn create(&mut self, arrival: Arrival)
         requires chain { 0 < self.old.future.room }
         requires counts { arrival.id < self.old.counts.limit }
         ensures made { machine_of self.new ≡
@@ -41,7 +41,7 @@ impl Parts {
     }
 
     // New transactions are put on the future chain, in order.
-    pub fn create_all(&mut self, arrivals: &[Arrival])
+    pub(crate) fn create_all(&mut self, arrivals: &[Arrival])
         requires chain { length arrivals.now ≤ self.old.future.room }
         requires counts { All (λ (a : Arrival). a.id < self.old.counts.limit) arrivals.now }
         ensures { machine_of self.new ≡

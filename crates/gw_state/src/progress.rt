@@ -87,14 +87,14 @@ impl Progress {
     }
 
     /// One command more is done.
-    pub fn count_command(&mut self)
+    pub(crate) fn count_command(&mut self)
         ensures { self.new ≡ record self.old { commands = raised self.old.commands } }
     {
         self.commands = self.commands.saturating_add(1);
     }
 
     /// Takes a count from the termination count, which completes the START at 0.
-    pub fn count_down(&mut self, count: u64)
+    pub(crate) fn count_down(&mut self, count: u64)
         ensures { self.new ≡ record self.old {
           remaining = self.old.remaining - count;
           complete = (if nat_lt count self.old.remaining then self.old.complete else raised self.old.complete);

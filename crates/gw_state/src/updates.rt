@@ -42,7 +42,7 @@ pub fn done_to_queue(update: QueueUpdate, clock: Clock, queue: Queue) -> Queue
 
 // The units of each share come into use, one by one.
 #[inline(never)]
-pub fn enter_all(storage: &mut Storage, grants: &[Option<u64>], clock: Clock)
+pub(crate) fn enter_all(storage: &mut Storage, grants: &[Option<u64>], clock: Clock)
     ensures { storage.new ≡ all_entered grants.now clock storage.old }
 {
     for grant in grants {

@@ -52,7 +52,7 @@ impl Parts {
     // What is written where a transaction goes from a block to another. Room is made to count it there, and for those
     // who wake. Nobody moves.
     #[inline(always)]
-    pub fn prepare(
+    pub(crate) fn prepare(
         &mut self,
         alloc: Global,
         from: StatementId,
@@ -81,7 +81,7 @@ impl Parts {
 
     // The same, where the entity with a key changes too, and those of its delay chain with a grant enter their blocks.
     #[inline(always)]
-    pub fn prepare_with(
+    pub(crate) fn prepare_with(
         &mut self,
         alloc: Global,
         from: StatementId,

@@ -55,7 +55,7 @@ impl ClockSteps {
     }
 
     /// The first clock step to a time later than this one, if there is one.
-    pub fn first_beyond(&self, time: Time) -> Option<u64>
+    pub(crate) fn first_beyond(&self, time: Time) -> Option<u64>
         ensures { result ≡ first_beyond time self.now }
     {
         step_of(&self.steps, count_until(&self.steps, time))

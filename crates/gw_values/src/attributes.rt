@@ -250,7 +250,7 @@ pub fn subject(run: Run, notes: &mut Notes, of: &Subject) -> Result<Key, Halt>
 }
 
 // The key of the entity with a name, or with the number that the name stands for.
-pub fn key_named(name: &Name, number: Option<Val>) -> Result<Key, Halt>
+pub(crate) fn key_named(name: &Name, number: Option<Val>) -> Result<Key, Halt>
     ensures { Comes (named name.now number) result }
 {
     match number {
@@ -261,7 +261,7 @@ pub fn key_named(name: &Name, number: Option<Val>) -> Result<Key, Halt>
 
 // The key of the entity with a number, from 1.
 #[inline(always)]
-pub fn key_numbered(number: Val) -> Result<Key, Halt>
+pub(crate) fn key_numbered(number: Val) -> Result<Key, Halt>
     ensures { Comes (numbered number) result }
 {
     if number.get() < 1 {

@@ -29,7 +29,7 @@ pub fn enter_for(id: StatementId, fate: Fate) -> Move
 
 // It changes its transaction.
 #[inline(always)]
-pub fn enter_with(id: StatementId, change: TransactionChange) -> Move
+pub(crate) fn enter_with(id: StatementId, change: TransactionChange) -> Move
     ensures { result ≡ moves.Enter id (changes.Transaction change) fates.Active }
 {
     Move::Enter {
@@ -53,7 +53,7 @@ pub fn enter_doing(id: StatementId, key: Key, update: Update) -> Move
 
 // It brings others.
 #[inline(always)]
-pub fn enter_bringing(id: StatementId, change: Change) -> Move
+pub(crate) fn enter_bringing(id: StatementId, change: Change) -> Move
     ensures { result ≡ moves.Enter id change fates.Active }
 {
     Move::Enter {
