@@ -36,7 +36,11 @@ fn has_room(count: u32, points: &[Point]) -> bool
 /// stands after those before it: an x that is not above the last one, one pair too many, or what is no pair is
 /// `BadPairs`. After a fault the statement may lack what it had.
 #[tactic(auto, unfolding(crate::specs::Pairs::further_of))]
-pub(crate) fn read_further(alloc: Global, statement: &mut Statement, line: &[u8]) -> Result<(), LineFault>
+pub(crate) fn read_further(
+    alloc: Global,
+    statement: &mut Statement,
+    line: &[u8],
+) -> Result<(), LineFault>
     ensures { Gives (λ u. statement.new) result (further_of statement.old line.now) }
 {
     match read_kept(alloc, line)? {

@@ -40,7 +40,10 @@ pub(crate) fn count_starts(commands: &[Command]) -> u64
 }
 
 /// The ids of the GENERATEs, in order.
-pub(crate) fn generates_of(alloc: Global, lines: &[Numbered]) -> Result<Vec<StatementId>, AllocError>
+pub(crate) fn generates_of(
+    alloc: Global,
+    lines: &[Numbered],
+) -> Result<Vec<StatementId>, AllocError>
     ensures { IfOk result (λ numbers. numbers.items ≡ generates_in lines.now) }
 {
     let mut numbers = Vec::new(alloc);

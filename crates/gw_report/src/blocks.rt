@@ -13,7 +13,11 @@ use gw_state::State;
 use std::alloc::AllocError;
 
 /// Appends the blocks, in order.
-pub(crate) fn put_blocks(out: &mut Vec<u8>, version: &Version, state: &State) -> Result<(), AllocError>
+pub(crate) fn put_blocks(
+    out: &mut Vec<u8>,
+    version: &Version,
+    state: &State,
+) -> Result<(), AllocError>
     ensures { OnOk result (out.new.items ≡ out.old.items ++ blocks_text version.now state.now) }
 {
     let mut lines = Sheet::new(*out.allocator());

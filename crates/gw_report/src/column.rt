@@ -29,7 +29,11 @@ pub enum Cell<'a> {
 }
 
 /// Appends a row: its cells in their columns.
-pub(crate) fn put_row(sheet: &mut Sheet, columns: &[Column], cells: &[Cell]) -> Result<(), AllocError>
+pub(crate) fn put_row(
+    sheet: &mut Sheet,
+    columns: &[Column],
+    cells: &[Cell],
+) -> Result<(), AllocError>
     ensures { OnOk result (sheet.new ≡ sheet.old ++ row_of (map column_of columns.now) (map text_of_cell cells.now)) }
 {
     sheet.make_room()?;

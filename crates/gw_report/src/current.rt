@@ -11,7 +11,11 @@ use gw_state::State;
 use std::alloc::{AllocError, Global};
 
 /// Appends the current chain after the active transaction.
-pub(crate) fn put_current(out: &mut Vec<u8>, version: &Version, state: &State) -> Result<(), AllocError>
+pub(crate) fn put_current(
+    out: &mut Vec<u8>,
+    version: &Version,
+    state: &State,
+) -> Result<(), AllocError>
     ensures { OnOk result (out.new.items ≡ out.old.items ++ current_text version.now state.now) }
 {
     let lines = current_lines(*out.allocator(), version, state)?;

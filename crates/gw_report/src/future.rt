@@ -12,7 +12,11 @@ use gw_state::State;
 use std::alloc::{AllocError, Global};
 
 /// Appends the future chain by time, and at equal times in the order of coming.
-pub(crate) fn put_future(out: &mut Vec<u8>, version: &Version, state: &State) -> Result<(), AllocError>
+pub(crate) fn put_future(
+    out: &mut Vec<u8>,
+    version: &Version,
+    state: &State,
+) -> Result<(), AllocError>
     ensures { OnOk result (out.new.items ≡ out.old.items ++ future_text version.now state.now) }
 {
     let lines = future_lines(*out.allocator(), version, state.future())?;

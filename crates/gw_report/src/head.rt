@@ -18,7 +18,11 @@ const HEAD_COLUMNS: [Column; 5] = [
 ];
 
 /// Appends the head: from when to when, and how much there is.
-pub(crate) fn put_head(out: &mut Vec<u8>, version: &Version, state: &State) -> Result<(), AllocError>
+pub(crate) fn put_head(
+    out: &mut Vec<u8>,
+    version: &Version,
+    state: &State,
+) -> Result<(), AllocError>
     ensures { OnOk result (out.new.items ≡ out.old.items ++ head_text version.now state.now) }
 {
     let cells = [

@@ -96,7 +96,12 @@ impl Sheet {
 
     /// Appends a cell after a gap: a number on the right of a width.
     #[inline(always)]
-    pub(crate) fn put_number(&mut self, gap: usize, width: usize, number: u64) -> Result<(), AllocError>
+    pub(crate) fn put_number(
+        &mut self,
+        gap: usize,
+        width: usize,
+        number: u64,
+    ) -> Result<(), AllocError>
         requires { gap ≤ 1 }
         ensures { OnOk result (self.new ≡ self.old ++ (blanks gap ++ fitted Right width (decimal number))) }
     {
@@ -127,7 +132,12 @@ impl Sheet {
 
     /// Appends a cell after a gap: a number with its sign on the right of a width.
     #[inline(always)]
-    pub(crate) fn put_signed(&mut self, gap: usize, width: usize, value: Val) -> Result<(), AllocError>
+    pub(crate) fn put_signed(
+        &mut self,
+        gap: usize,
+        width: usize,
+        value: Val,
+    ) -> Result<(), AllocError>
         requires { gap ≤ 1 }
         ensures { OnOk result (self.new ≡ self.old ++ (blanks gap ++ fitted Right width (signed value))) }
     {

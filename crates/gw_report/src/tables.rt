@@ -21,7 +21,11 @@ use gw_state::State;
 use std::alloc::{AllocError, Global};
 
 /// Appends the tables, in order of first touch, with the classes that the version gives them.
-pub(crate) fn put_tables(out: &mut Vec<u8>, version: &Version, state: &State) -> Result<(), AllocError>
+pub(crate) fn put_tables(
+    out: &mut Vec<u8>,
+    version: &Version,
+    state: &State,
+) -> Result<(), AllocError>
     ensures { OnOk result (out.new.items ≡ out.old.items ++ tables_text version.now state.now) }
 {
     let lines = table_lines(*out.allocator(), version, state)?;

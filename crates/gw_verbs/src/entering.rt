@@ -9,7 +9,7 @@ use gw_names::Key;
 
 // It is entered, and no more.
 #[inline(always)]
-pub fn pass(id: StatementId) -> Move
+pub(crate) fn pass(id: StatementId) -> Move
     ensures { result ≡ moves.Enter id changes.Nothing fates.Active }
 {
     enter_for(id, Fate::Active)
@@ -17,7 +17,7 @@ pub fn pass(id: StatementId) -> Move
 
 // It is entered, and this becomes of the transaction.
 #[inline(always)]
-pub fn enter_for(id: StatementId, fate: Fate) -> Move
+pub(crate) fn enter_for(id: StatementId, fate: Fate) -> Move
     ensures { result ≡ moves.Enter id changes.Nothing fate }
 {
     Move::Enter {
@@ -41,7 +41,7 @@ pub(crate) fn enter_with(id: StatementId, change: TransactionChange) -> Move
 
 // It changes the entity with a key.
 #[inline(always)]
-pub fn enter_doing(id: StatementId, key: Key, update: Update) -> Move
+pub(crate) fn enter_doing(id: StatementId, key: Key, update: Update) -> Move
     ensures { result ≡ moves.Enter id (changes.Entity (key, update)) fates.Active }
 {
     Move::Enter {

@@ -12,7 +12,7 @@ use gw_names::Name;
 
 // So many units beside those in use, 2^64 - 1 at most.
 #[inline(always)]
-pub fn beside(units: u64, content: u64) -> u64
+pub(crate) fn beside(units: u64, content: u64) -> u64
     ensures { result ≡ beside units content }
 {
     units.saturating_add(content)
@@ -21,7 +21,7 @@ pub fn beside(units: u64, content: u64) -> u64
 // Each of a delay chain, where there is one, is let in from the front where its units fit beside those that are in use by
 // then.
 #[inline(always)]
-pub fn grants_of(
+pub(crate) fn grants_of(
     run: Run,
     notes: &mut Notes,
     name: &Name,
@@ -83,7 +83,7 @@ fn grant_of(units: u64, fits: bool) -> Option<u64>
 
 // The units of those who are let in, 2^64 - 1 at most.
 #[inline(always)]
-pub fn all_granted(grants: &[Option<u64>]) -> u64
+pub(crate) fn all_granted(grants: &[Option<u64>]) -> u64
     ensures { result ≡ capped (all_granted grants.now) }
 {
     let mut sum: u64 = 0;
