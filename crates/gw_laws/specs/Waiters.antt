@@ -213,7 +213,13 @@ is_lasting class.Tc = true
 is_lasting class.P = true
 is_lasting class.Pr = true
 is_lasting class.Xn1 = true
-is_lasting class = false
+is_lasting class.C1 = false
+is_lasting class.Ac1 = false
+is_lasting class.Tg1 = false
+is_lasting class.M1 = false
+is_lasting class.Rn = false
+is_lasting class.V = false
+is_lasting class.Fn = false
 
 -- what a RESET leaves of that as it is; the others it counts anew, and wakes nobody
 abbrev pub outlasts_reset : Class → Bool

@@ -234,7 +234,8 @@ attribute_prog s q class.Tc of = defined_prog of (λ key. table_value s key)
 attribute_prog s q class.N of = block_count of (λ id. block_value s class.N id)
 attribute_prog s q class.W of = block_count of (λ id. block_value s class.W id)
 attribute_prog s q class.Rn of = random_prog of
-attribute_prog s q class of = ends_with (ends.Error Range)
+attribute_prog s q class.V of = ends_with (ends.Error Range)
+attribute_prog s q class.Fn of = ends_with (ends.Error Range)
 
 -- what an operator comes to: a value, or the stop that says why there is none
 abbrev pub arithmetic : Result ℤ ArithmeticFault → Eval ℤ
@@ -350,7 +351,16 @@ watched_prog class.Sm of = defined_watched kinds.Storage of
 watched_prog class.Tc of = defined_watched kinds.Table of
 watched_prog class.N of = counts_watched of
 watched_prog class.W of = counts_watched of
-watched_prog class of = gives []
+watched_prog class.C1 of = gives []
+watched_prog class.Ac1 of = gives []
+watched_prog class.Tg1 of = gives []
+watched_prog class.M1 of = gives []
+watched_prog class.Xn1 of = gives []
+watched_prog class.Pr of = gives []
+watched_prog class.P of = gives []
+watched_prog class.Rn of = gives []
+watched_prog class.V of = gives []
+watched_prog class.Fn of = gives []
 
 abbrev pub watched_by : Question → Eval (List Watched)
 watched_by (AttributeOf class of) = watched_prog class of

@@ -64,7 +64,8 @@ abbrev pub operands_of_definition : Definition → List (Option Term)
 operands_of_definition (definitions.Variable expression) = Some expression ∷ []
 operands_of_definition (definitions.Function function) = Some function.argument ∷ []
 operands_of_definition (definitions.Table table) = Some table.argument ∷ []
-operands_of_definition definition = []
+operands_of_definition (definitions.Storage capacity) = []
+operands_of_definition (definitions.Equ value) = []
 
 abbrev pub operands_of_body : Body → List (Option Term)
 operands_of_body (bodies.Block block) = block.operands

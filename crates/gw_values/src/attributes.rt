@@ -38,7 +38,7 @@ pub fn attribute(
         Class::Tc => of_table(context.state, of),
         Class::N | Class::W => of_block(context, notes, class, of),
         Class::Rn => random(context.run, notes, of),
-        _ => Err(Halt::stop(Stop::Range)),
+        Class::V | Class::Fn => Err(Halt::stop(Stop::Range)),
     }
 }
 

@@ -80,7 +80,8 @@ fn watched(run: Run, notes: &mut Notes, class: Class, of: &Subject) -> Result<Op
         Class::Sc | Class::Sm => defined_watched(run, notes, EntityKind::Storage, of),
         Class::Tc => defined_watched(run, notes, EntityKind::Table, of),
         Class::N | Class::W => counts_watched(run, notes, of),
-        _ => Ok(None),
+        Class::C1 | Class::Ac1 | Class::Tg1 | Class::M1 | Class::Xn1 | Class::Pr => Ok(None),
+        Class::P | Class::Rn | Class::V | Class::Fn => Ok(None),
     }
 }
 
