@@ -9,7 +9,7 @@ ghost use Rattle.gw_asking.specs.Noted.{Asks};
 
 use crate::notes::Notes;
 use crate::run::Run;
-use gw_expr::{Atom, Expr, Halt, Node, Stop, Subject, is_of_function};
+use gw_expr::{Atom, Expr, Halt, Stop, Subject, is_of_function};
 use gw_meaning::Item;
 use gw_nums::{Millionths, Val, times};
 use std::alloc::AllocError;
@@ -48,8 +48,8 @@ pub fn millionths(number: u32) -> u64
 pub fn modifier_of(range: Option<&Expr>) -> Option<&Subject>
     ensures { option_copied result ≡ modifier_of (option_copied range.entry) }
 {
-    match range?.node() {
-        Node::Value(Atom::Attribute(class, of)) if is_of_function(*class) => Some(of),
+    match range? {
+        Expr::Value(Atom::Attribute(class, of)) if is_of_function(*class) => Some(of),
         _ => None,
     }
 }

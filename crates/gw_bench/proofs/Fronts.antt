@@ -4,7 +4,7 @@ use mathlib.Core.List.{IsPrefix}
 use Rattle.std.proofs.lemmas.List.{append-nil}
 use Rattle.once_cell.specs.declared.race.note.Note.{Note}
 use Rattle.gw_meaning.specs.Listing.{Listing}
-use Rattle.gw_touch.specs.declared.edit.Edit.{Edit}
+use Rattle.gw_meaning.specs.declared.edit.Edit.{Edit}
 use Rattle.gw_edit.specs.Applied.{applied}
 use Rattle.gw_edit.specs.Leading.{or_same, version_of}
 use Rattle.gw_bench.specs.Fronts.{front_of, Stands, IsPass, Follows}

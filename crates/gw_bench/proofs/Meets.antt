@@ -3,7 +3,7 @@ use Rattle.std.proofs.Common.{◌≡◌, ℕ, zero, suc, ◌<◌, List, [], ◌�
 use mathlib.Core.List.{IsPrefix}
 use Rattle.once_cell.specs.declared.race.note.Note.{Note}
 use Rattle.once_cell.specs.Once.{Agrees}
-use Rattle.gw_touch.specs.declared.edit.Edit.{Edit}
+use Rattle.gw_meaning.specs.declared.edit.Edit.{Edit}
 use Rattle.gw_bench.specs.Fronts.{front_of, Stands, known_at}
 
 pub set-same : {A : Type 0} (xs : List A) (k : ℕ) (x : A) → x ≡ get_or xs k x → slice_set xs k x ≡ xs

@@ -4,7 +4,7 @@ use Rattle.std.specs.Prelude.{◌≡◌, ◌<◌, ◌≤◌, ℕ, zero, suc, Lis
 use Rattle.std.specs.Prelude.{Option, None, Some, option_to_list}
 use Rattle.once_cell.specs.declared.race.note.Note.{Note}
 use Rattle.gw_meaning.specs.Listing.{Listing}
-use Rattle.gw_touch.specs.declared.edit.Edit.{Edit}
+use Rattle.gw_meaning.specs.declared.edit.Edit.{Edit}
 use Rattle.gw_edit.specs.Applied.{applied}
 use Rattle.gw_edit.specs.Leading.{or_same, version_of}
 

@@ -3,7 +3,7 @@
 use Rattle.std.proofs.Common.{◌≡◌, ℕ, List, Option, None, true, refl, append-nil}
 use mathlib.Core.List.{IsPrefix}
 use Rattle.gw_meaning.specs.Listing.{Listing}
-use Rattle.gw_touch.specs.declared.edit.Edit.{Edit}
+use Rattle.gw_meaning.specs.declared.edit.Edit.{Edit}
 use Rattle.gw_edit.specs.declared.fault.EditFault.TheVariants as faults
 use Rattle.gw_desk.specs.declared.answer.Answer.{Answer}
 use Rattle.gw_desk.specs.declared.answer.Answer.TheVariants as answers

@@ -2,7 +2,7 @@
 use Rattle.std.specs.Prelude.{◌≡◌, ◌≤◌, ◌<◌, ℕ, List, [], ◌∷◌, ◌++◌, Option, Some, None, Ok, Err, IsSome, length}
 use mathlib.Core.List.{IsPrefix}
 use Rattle.gw_meaning.specs.Listing.{Listing, seed_at, starts}
-use Rattle.gw_touch.specs.declared.edit.Edit.{Edit}
+use Rattle.gw_meaning.specs.declared.edit.Edit.{Edit}
 use Rattle.gw_edit.specs.declared.fault.EditFault.{EditFault}
 use Rattle.gw_edit.specs.declared.fault.EditFault.TheVariants as faults
 use Rattle.gw_edit.specs.Applied.{applied}

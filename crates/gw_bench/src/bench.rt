@@ -12,7 +12,7 @@ use crate::leg::Leg;
 use crate::pass::{Pass, RowName};
 use crate::row::Row;
 use gw_desk::{Answer, Post};
-use gw_edit::Edit;
+use gw_meaning::Edit;
 use gw_model::Version;
 use std::alloc::{AllocError, Global};
 use std::cmp::Ordering;

@@ -2,7 +2,7 @@
 ghost use Rattle.std.specs.Prelude.{◌≡◌, ◌<◌, ◌≤◌, ◌⊎◌, [], length, None, Some, slice_get, slice_index};
 ghost use Rattle.std.specs.Prelude.{IfOk, IfSome, MatchBool, OnErr, OnOk};
 ghost use mathlib.Core.List.{IsPrefix};
-ghost use Rattle.gw_touch.specs.declared.edit.Edit.{Edit as AnEdit};
+ghost use Rattle.gw_meaning.specs.declared.edit.Edit.{Edit as AnEdit};
 ghost use Rattle.gw_edit.specs.Leading.{accepted, version_of};
 ghost use Rattle.gw_desk.specs.Book.{blank_runs};
 ghost use Rattle.gw_desk.specs.declared.play.Event.TheVariants as events;
@@ -17,7 +17,8 @@ use crate::leg::Leg;
 use crate::pass::{Pass, RowName};
 use crate::row::Row;
 use gw_desk::{Answer, Desk, Post};
-use gw_edit::{Edit, EditFault};
+use gw_edit::EditFault;
+use gw_meaning::Edit;
 use gw_model::Version;
 use once_cell::race::Note;
 use std::alloc::{AllocError, Global};

@@ -3,7 +3,7 @@ ghost use Rattle.std.specs.Prelude.{IfOk, IfErr, IfSome, MatchBool, OnErr, OnOk}
 ghost use Rattle.std.specs.Prelude.{option_to_list, slice_get, slice_index};
 ghost use Rattle.once_cell.specs.Once.{Agrees};
 ghost use mathlib.Core.List.{IsPrefix};
-ghost use Rattle.gw_touch.specs.declared.edit.Edit.{Edit as AnEdit};
+ghost use Rattle.gw_meaning.specs.declared.edit.Edit.{Edit as AnEdit};
 ghost use Rattle.gw_edit.specs.Applied.{applied};
 ghost use Rattle.gw_edit.specs.Leading.{or_same, version_of};
 ghost use Rattle.gw_bench.specs.Fronts.{Follows};
@@ -11,7 +11,8 @@ ghost use Rattle.gw_bench.specs.Faults.{Says, Puts};
 
 use crate::fault::{BenchFault, refusal_of};
 use crate::row::{BOXES, Row};
-use gw_edit::{Edit, EditFault, apply};
+use gw_edit::{EditFault, apply};
+use gw_meaning::Edit;
 use gw_model::Version;
 use note_copy::second;
 use once_cell::race::Note;
@@ -47,7 +48,7 @@ pub struct Pass<N: RowName> {
 impl<N: RowName> Model for Pass<N> {
     ghost use Rattle.std.specs.Prelude.{List};
     ghost use Rattle.std.specs.Vec.{vec_capacity};
-    ghost use Rattle.gw_touch.specs.declared.edit.Edit.{Edit};
+    ghost use Rattle.gw_meaning.specs.declared.edit.Edit.{Edit};
     ghost use Rattle.gw_bench.specs.Fronts.{front_of, IsPass};
 
     ghost Value = { List Edit };

@@ -1,7 +1,7 @@
 ghost use Rattle.std.specs.Prelude.{◌≡◌, ◌<◌, None, IfOk, MatchOption, MatchResult, Some, length, slice_index};
 ghost use Rattle.once_cell.specs.Once.{Agrees};
 
-use gw_edit::Edit;
+use gw_meaning::Edit;
 use once_cell::race::{Note, OnceBox};
 use std::alloc::{AllocError, Global};
 use std::marker::Model;

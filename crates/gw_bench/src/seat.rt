@@ -8,8 +8,8 @@ use crate::bench::Bench;
 use crate::fault::BenchFault;
 use crate::pass::{Pass, RowName};
 use gw_desk::{Answer, Keeper};
-use gw_edit::{Edit, EditFault};
-use gw_meaning::{Numbered, Replication};
+use gw_edit::EditFault;
+use gw_meaning::{Edit, Numbered, Replication};
 use std::alloc::{AllocError, Global};
 use std::sync::Wait;
 

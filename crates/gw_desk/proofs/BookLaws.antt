@@ -6,7 +6,7 @@ use Rattle.gw_meaning.specs.Listing.{Listing, seed_in}
 use Rattle.gw_model.specs.Well.{Well}
 use Rattle.gw_record.specs.Tape.{blank}
 use Rattle.gw_record.proofs.Blank.{blank_records}
-use Rattle.gw_touch.specs.declared.edit.Edit.{Edit}
+use Rattle.gw_meaning.specs.declared.edit.Edit.{Edit}
 use Rattle.gw_desk.specs.declared.recording.Recording.{Recording}
 use Rattle.gw_desk.specs.Book.{IsBook, run_in, IsRunOf, blank_runs}
 use Rattle.gw_desk.proofs.ApartLaws.{apart_blank}

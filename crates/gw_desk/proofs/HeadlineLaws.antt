@@ -7,7 +7,7 @@ use Rattle.gw_meaning.specs.Listing.{Listing}
 use Rattle.gw_lines.specs.Printed.{IsSpelled}
 use Rattle.gw_lines.proofs.Printed.{printed_models}
 use Rattle.gw_frame.specs.Renamed.{statements_of}
-use Rattle.gw_touch.specs.declared.edit.Edit.{Edit}
+use Rattle.gw_meaning.specs.declared.edit.Edit.{Edit}
 use Rattle.gw_edit.specs.Applied.{applied}
 use Rattle.gw_edit.specs.Spelled.{AreSpelled}
 use Rattle.gw_edit.proofs.SpelledLaws.{edits_are_spelled}

@@ -4,7 +4,7 @@ use Rattle.std.proofs.Math.Nat.{le_refl}
 use Rattle.std.proofs.lemmas.List.{take_all, length-drop}
 use Rattle.gw_meaning.specs.Listing.{Listing}
 use Rattle.gw_record.specs.Tape.{Tape}
-use Rattle.gw_touch.specs.declared.edit.Edit.{Edit}
+use Rattle.gw_meaning.specs.declared.edit.Edit.{Edit}
 use Rattle.gw_edit.specs.Leading.{LeadsTo}
 use Rattle.gw_desk.specs.declared.post.Post.{Post}
 use Rattle.gw_desk.specs.declared.post.Post.TheVariants as posts

@@ -3,7 +3,7 @@
 use Rattle.std.specs.Prelude.{◌≡◌, ℕ, ◌<◌, ◌≤◌, [], ◌∷◌, ◌++◌, length, Some, None, Ok, Err}
 use Rattle.gw_meaning.specs.Listing.{seed_at}
 use Rattle.gw_record.specs.Tape.{Tape, blank}
-use Rattle.gw_touch.specs.declared.edit.Edit.{Edit}
+use Rattle.gw_meaning.specs.declared.edit.Edit.{Edit}
 use Rattle.gw_touch.specs.Touching.{touch_of}
 use Rattle.gw_touch.specs.Touched.{touched_step, IsKeptOf}
 use Rattle.gw_edit.specs.declared.fault.EditFault.{EditFault}

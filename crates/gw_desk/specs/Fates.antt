@@ -3,7 +3,7 @@
 use Rattle.std.specs.Prelude.{◌≡◌, ◌⊎◌, ℕ, ◌<◌, ◌≤◌, List, [], ◌∷◌, ◌++◌, Some, None, Ok}
 use Rattle.gw_meaning.specs.Listing.{Listing, seed_at}
 use Rattle.gw_record.specs.Tape.{Tape}
-use Rattle.gw_touch.specs.declared.edit.Edit.{Edit}
+use Rattle.gw_meaning.specs.declared.edit.Edit.{Edit}
 use Rattle.gw_touch.specs.Touching.{touch_of}
 use Rattle.gw_touch.specs.Touched.{touched_step, IsBefore}
 use Rattle.gw_edit.specs.Applied.{applied}

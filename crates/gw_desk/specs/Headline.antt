@@ -7,7 +7,7 @@ use Rattle.gw_lines.specs.Printed.{listed_text}
 use Rattle.gw_lines.specs.Whole.{SpellsModel}
 use Rattle.gw_model.specs.Listed.{listed}
 use Rattle.gw_frame.specs.Renamed.{statements_of}
-use Rattle.gw_touch.specs.declared.edit.Edit.{Edit}
+use Rattle.gw_meaning.specs.declared.edit.Edit.{Edit}
 use Rattle.gw_edit.specs.declared.fault.EditFault.{EditFault}
 use Rattle.gw_edit.specs.Applied.{applied}
 use Rattle.gw_edit.specs.Spelled.{AreSpelled}

@@ -6,7 +6,7 @@ use Rattle.gw_meaning.specs.Machine.{Machine}
 use Rattle.gw_meaning.specs.Step.{step}
 use Rattle.gw_record.specs.Tape.{Tape, Records, from_tip}
 use Rattle.gw_record.specs.Extending.{tallied, EndsAtTip}
-use Rattle.gw_touch.specs.declared.edit.Edit.{Edit}
+use Rattle.gw_meaning.specs.declared.edit.Edit.{Edit}
 use Rattle.gw_edit.specs.Leading.{LeadsTo}
 use Rattle.gw_desk.specs.Book.{Book, run_in}
 

@@ -1,7 +1,7 @@
 -- What a list of events comes to, event by event: the reply, the book of the desk after it, and the legs that the
 -- workers have. (Our own.)
 use Rattle.std.specs.Prelude.{◌≡◌, ◌≢◌, ℕ, List, [], ◌∷◌, Option, Some, None, true, false, length}
-use Rattle.gw_touch.specs.declared.edit.Edit.{Edit}
+use Rattle.gw_meaning.specs.declared.edit.Edit.{Edit}
 use Rattle.gw_edit.specs.declared.fault.EditFault.{EditFault}
 use Rattle.gw_desk.specs.declared.answer.Answer.{Answer}
 use Rattle.gw_desk.specs.declared.answer.Answer.TheVariants as answers

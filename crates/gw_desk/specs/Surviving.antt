@@ -2,7 +2,7 @@
 -- dies of one. (Our own.)
 use Rattle.std.specs.Prelude.{◌≡◌, ℕ, Bool, true, false, List, Option, Some, None}
 use Rattle.gw_meaning.specs.Listing.{Listing, seed_at}
-use Rattle.gw_touch.specs.declared.edit.Edit.{Edit}
+use Rattle.gw_meaning.specs.declared.edit.Edit.{Edit}
 use Rattle.gw_record.specs.Tape.{Tape, Records}
 use Rattle.gw_desk.specs.Legs.{Leg}
 use Rattle.gw_desk.specs.Fates.{Lasts, Lives, Dies, IsDead}

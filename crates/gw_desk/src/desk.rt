@@ -5,7 +5,7 @@ ghost use Rattle.gw_desk.specs.Book.{IsBook, IsRunOf, run_in, blank_runs};
 
 use crate::recording::{Recording, blank_runs, run_of};
 use crate::texts::Texts;
-use gw_edit::Edit;
+use gw_meaning::Edit;
 use gw_model::Version;
 use gw_record::Recorded;
 use gw_scan::Tally;

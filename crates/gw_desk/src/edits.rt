@@ -5,7 +5,8 @@ ghost use Rattle.gw_desk.specs.Editing.{Accepts, Refuses};
 
 use crate::desk::Desk;
 use crate::rebase::{add_missing, keep_those_of, rebase_all};
-use gw_edit::{Edit, EditFault, apply, touch_of};
+use gw_edit::{EditFault, apply, touch_of};
+use gw_meaning::Edit;
 use std::alloc::Global;
 
 /// How many edits a desk accepts.

@@ -11,8 +11,8 @@ ghost use Rattle.gw_desk.specs.Working.{WorksOn};
 
 use crate::answer::Answer;
 use crate::desk::Desk;
-use gw_edit::{Edit, EditFault};
-use gw_meaning::{Numbered, Replication};
+use gw_edit::EditFault;
+use gw_meaning::{Edit, Numbered, Replication};
 use std::alloc::{AllocError, Global};
 
 /// Keeps a version of a model open, edits it and answers queries of it.

@@ -5,7 +5,7 @@ ghost use Rattle.gw_desk.specs.Legs.{IsLeg, Works};
 ghost use Rattle.gw_desk.specs.Surviving.{Leaves};
 
 use crate::survive::survives;
-use gw_edit::Edit;
+use gw_meaning::Edit;
 use gw_model::Version;
 use gw_record::Recorded;
 use gw_scan::Tally;

@@ -12,7 +12,8 @@ use crate::answer::Answer;
 use crate::desk::Desk;
 use crate::leg::Leg;
 use crate::post::Post;
-use gw_edit::{Edit, EditFault};
+use gw_edit::EditFault;
+use gw_meaning::Edit;
 use std::alloc::{AllocError, Global};
 use std::mem;
 

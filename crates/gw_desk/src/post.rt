@@ -2,7 +2,7 @@
 ghost use Rattle.std.specs.Prelude.{◌≡◌, ◌++◌, ℕ, List, Some, IfOk, OnErr, IsTrue, IsFalse};
 ghost use Rattle.gw_meaning.specs.Listing.{Listing, seed_at};
 ghost use Rattle.gw_record.specs.Tape.{Records};
-ghost use Rattle.gw_touch.specs.declared.edit.Edit.{Edit as AnEdit};
+ghost use Rattle.gw_meaning.specs.declared.edit.Edit.{Edit as AnEdit};
 ghost use Rattle.gw_desk.specs.Book.{IsBook};
 ghost use Rattle.gw_desk.specs.Fates.{IsOf};
 ghost use Rattle.gw_desk.specs.Posting.{Posts};
@@ -11,7 +11,8 @@ ghost use Rattle.gw_desk.specs.Records.{Continues, Offers};
 use crate::desk::Desk;
 use crate::leg::Leg;
 use crate::recording::place_of;
-use gw_edit::{Edit, same_version};
+use gw_edit::same_version;
+use gw_meaning::Edit;
 use gw_record::Recorded;
 use std::alloc::{AllocError, Global};
 

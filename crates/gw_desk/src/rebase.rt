@@ -1,7 +1,7 @@
 // What an edit leaves of the recorded runs.
 ghost use Rattle.std.specs.Prelude.{◌≡◌, ◌+◌, ◌<◌, ◌≤◌, length, vec_len, vec_capacity, filter, is_some};
 ghost use Rattle.gw_meaning.specs.Listing.{Listing, seed_at};
-ghost use Rattle.gw_touch.specs.declared.edit.Edit.{Edit};
+ghost use Rattle.gw_meaning.specs.declared.edit.Edit.{Edit};
 ghost use Rattle.gw_touch.specs.Touching.{touching_of};
 ghost use Rattle.gw_desk.specs.declared.recording.Recording.{Recording};
 ghost use Rattle.gw_desk.specs.Book.{run_in};

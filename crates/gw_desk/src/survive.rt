@@ -2,7 +2,8 @@
 ghost use Rattle.std.specs.Prelude.{IfOk};
 ghost use Rattle.gw_desk.specs.Surviving.{Passes, Survives};
 
-use gw_edit::{Edit, apply, rebase, touch_of};
+use gw_edit::{apply, rebase, touch_of};
+use gw_meaning::Edit;
 use gw_model::Version;
 use gw_record::Recorded;
 use std::alloc::{AllocError, Global};

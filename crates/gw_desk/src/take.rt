@@ -6,7 +6,7 @@ ghost use Rattle.gw_desk.specs.Legs.{Takes, IsAtEnd, GoesOn, IsBranchOf};
 use crate::desk::Desk;
 use crate::leg::Leg;
 use crate::recording::place_of;
-use gw_edit::Edit;
+use gw_meaning::Edit;
 use gw_model::Version;
 use gw_record::Recorded;
 use gw_scan::{Tally, end_at};

@@ -1,7 +1,7 @@
 -- Where edits lead: one edit more, a front and what comes after it, and that they lead to one version.
 use Rattle.std.proofs.Common.{◌≡◌, List, [], ◌∷◌, ◌++◌, Result, Ok, Err, refl, sym, ap, subst, ◌∙◌}
 use Rattle.gw_meaning.specs.Listing.{Listing}
-use Rattle.gw_touch.specs.declared.edit.Edit.{Edit}
+use Rattle.gw_meaning.specs.declared.edit.Edit.{Edit}
 use Rattle.gw_edit.specs.declared.fault.EditFault.{EditFault}
 use Rattle.gw_edit.specs.Applied.{applied}
 use Rattle.gw_edit.specs.Leading.{LeadsTo, version_of, accepted, or_same, kept_if}

@@ -12,8 +12,8 @@ use Rattle.gw_lines.specs.Reading.{◌>>=◌}
 use Rattle.gw_model.specs.declared.fault.ModelFault.{ModelFault}
 use Rattle.gw_model.specs.Faults.{fault_of, is_outside}
 use Rattle.gw_model.specs.Spliced.{with_splice}
-use Rattle.gw_touch.specs.declared.edit.Edit.{Edit}
-use Rattle.gw_touch.specs.declared.edit.Edit.TheVariants as edits
+use Rattle.gw_meaning.specs.declared.edit.Edit.{Edit}
+use Rattle.gw_meaning.specs.declared.edit.Edit.TheVariants as edits
 use Rattle.gw_touch.specs.Touching.{is_capacity, storage_in, storage_place, touch_of, touched_in, everywhere, seed_touching, is_touched, lines_before, splice_probes, same_seed, capacity_probes}
 use Rattle.gw_edit.specs.declared.fault.EditFault.{EditFault}
 use Rattle.gw_lines.specs.Printed.{storage_of}

@@ -15,7 +15,7 @@ use Rattle.gw_frame.specs.Alike.{SameAnswer}
 use Rattle.gw_frame.specs.Positions.{IsSplice}
 use Rattle.gw_frame.proofs.PositionFrame.{frame_in_positions}
 use Rattle.gw_uses.proofs.FirstLaws.{IsFirstReading, first_is}
-use Rattle.gw_touch.specs.declared.edit.Edit.{Edit}
+use Rattle.gw_meaning.specs.declared.edit.Edit.{Edit}
 use Rattle.gw_touch.specs.Touching.{touch_of, is_touched, lines_before}
 use Rattle.gw_edit.specs.Applied.{applied}
 use Rattle.gw_edit.specs.InPositions.{front_of, deleted_of, inserted_of, EditInPositions}

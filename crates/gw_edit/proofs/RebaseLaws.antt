@@ -11,7 +11,7 @@ use Rattle.gw_frame.specs.Alike.{SameAnswer}
 use Rattle.gw_record.specs.Tape.{Tape, Records}
 use Rattle.gw_record.specs.Carrying.{Carries}
 use Rattle.gw_uses.proofs.FirstLaws.{IsFirstReading, first_is}
-use Rattle.gw_touch.specs.declared.edit.Edit.{Edit}
+use Rattle.gw_meaning.specs.declared.edit.Edit.{Edit}
 use Rattle.gw_touch.specs.declared.touch.Probe.{Probe}
 use Rattle.gw_touch.specs.Touching.{touch_of, is_touched}
 use Rattle.gw_touch.specs.Touched.{touched_step, IsKeptOf}

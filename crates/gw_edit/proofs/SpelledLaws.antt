@@ -18,7 +18,7 @@ use Rattle.gw_lines.proofs.PrintedWords.{is_name}
 use Rattle.gw_lines.proofs.PrintedStorage.{storages_spell}
 use Rattle.gw_model.specs.Faults.{is_outside}
 use Rattle.gw_model.specs.Spliced.{inserted, number_in, spliced, with_splice}
-use Rattle.gw_touch.specs.declared.edit.Edit.TheVariants as edits
+use Rattle.gw_meaning.specs.declared.edit.Edit.TheVariants as edits
 use Rattle.gw_touch.specs.Touching.{is_capacity, storage_in, storage_place}
 use Rattle.gw_edit.specs.Applied.{capacity_at, checked, has_replication, reseeded, spelled_by, without_number}
 use Rattle.gw_edit.specs.Spelled.{AreSpelled, EditsAreSpelled}

@@ -10,8 +10,8 @@ use Rattle.gw_model.specs.Faults.{fault_of, has_bad_replication, is_bad_horizon,
 use Rattle.gw_model.specs.Spliced.{with_splice}
 use Rattle.gw_model.specs.Well.{Well}
 use Rattle.gw_model.proofs.Wellness.{well_left}
-use Rattle.gw_touch.specs.declared.edit.Edit.{Edit}
-use Rattle.gw_touch.specs.declared.edit.Edit.TheVariants as edits
+use Rattle.gw_meaning.specs.declared.edit.Edit.{Edit}
+use Rattle.gw_meaning.specs.declared.edit.Edit.TheVariants as edits
 use Rattle.gw_touch.specs.TouchedAlike.{IsMade}
 use Rattle.gw_touch.specs.Touching.{storage_place}
 use Rattle.gw_touch.proofs.AlikeLaws.{touches_what_differs}

@@ -10,7 +10,7 @@ use Rattle.gw_meaning.specs.Numbers.{AreNumbered}
 use Rattle.gw_meaning.specs.Questions.{ask}
 use Rattle.gw_model.specs.Spliced.{spliced, with_splice}
 use Rattle.gw_model.proofs.Numbers.{new_absent, absent_gone}
-use Rattle.gw_touch.specs.declared.edit.Edit.{Edit}
+use Rattle.gw_meaning.specs.declared.edit.Edit.{Edit}
 use Rattle.gw_touch.specs.declared.touch.Probe.{Probe}
 use Rattle.gw_touch.specs.Touching.{touch_of, is_touched, lines_before, line_probes, splice_probes}
 use Rattle.gw_edit.specs.Applied.{applied}

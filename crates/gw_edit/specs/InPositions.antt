@@ -9,8 +9,8 @@ use Rattle.gw_meaning.specs.Step.{run}
 use Rattle.gw_meaning.specs.Reads.{reads, first_reading}
 use Rattle.gw_frame.specs.Moved.{moved_item, moved_machine}
 use Rattle.gw_frame.specs.Positions.{position_of, shifted}
-use Rattle.gw_touch.specs.declared.edit.Edit.{Edit}
-use Rattle.gw_touch.specs.declared.edit.Edit.TheVariants as edits
+use Rattle.gw_meaning.specs.declared.edit.Edit.{Edit}
+use Rattle.gw_meaning.specs.declared.edit.Edit.TheVariants as edits
 use Rattle.gw_touch.specs.Touching.{storage_place, touch_of, is_touched, lines_before}
 use Rattle.gw_edit.specs.Applied.{applied}
 

@@ -4,7 +4,7 @@
 use Rattle.std.specs.Prelude.{◌≡◌, ℕ, Some, Ok}
 use Rattle.gw_meaning.specs.Listing.{Listing, seed_at}
 use Rattle.gw_record.specs.Tape.{Tape, Records}
-use Rattle.gw_touch.specs.declared.edit.Edit.{Edit}
+use Rattle.gw_meaning.specs.declared.edit.Edit.{Edit}
 use Rattle.gw_touch.specs.Touching.{touch_of}
 use Rattle.gw_touch.specs.Touched.{touched_step, IsKeptOf}
 use Rattle.gw_edit.specs.Applied.{applied}

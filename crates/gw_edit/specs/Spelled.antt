@@ -4,7 +4,7 @@ use Rattle.std.specs.Prelude.{◌≡◌, List, Ok, All}
 use Rattle.gw_meaning.specs.declared.statement.Numbered.{Numbered}
 use Rattle.gw_meaning.specs.Listing.{Listing}
 use Rattle.gw_lines.specs.Printed.{IsSpelled}
-use Rattle.gw_touch.specs.declared.edit.Edit.{Edit}
+use Rattle.gw_meaning.specs.declared.edit.Edit.{Edit}
 use Rattle.gw_edit.specs.Applied.{applied}
 
 -- each statement is spelled by some lines

@@ -6,7 +6,7 @@ use Rattle.gw_meaning.specs.Listing.{Listing, seed_at}
 use Rattle.gw_meaning.specs.Numbers.{AreNumbered}
 use Rattle.gw_model.specs.Faults.{fault_of}
 use Rattle.gw_frame.specs.Alike.{SameAnswer}
-use Rattle.gw_touch.specs.declared.edit.Edit.{Edit}
+use Rattle.gw_meaning.specs.declared.edit.Edit.{Edit}
 use Rattle.gw_touch.specs.TouchedAlike.{TouchedAlike}
 use Rattle.gw_touch.specs.Touching.{touch_of, is_touched}
 use Rattle.gw_edit.specs.Applied.{applied}

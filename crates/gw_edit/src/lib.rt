@@ -14,7 +14,7 @@ mod replications;
 mod text;
 
 pub use fault::EditFault;
-pub use gw_touch::{Edit, Touch, same_version, touch_of, touched};
+pub use gw_touch::{Touch, same_version, touch_of, touched};
 pub use laws::{
     capacity_touches_what_differs, edit_in_positions, edits_are_spelled, edits_make,
     touched_differs, untouched,

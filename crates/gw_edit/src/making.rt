@@ -9,11 +9,11 @@ use crate::replications::{reseeded, with_replication, without_number};
 use crate::text::spelled_by;
 use gw_expr::Row;
 use gw_lines::LineFault;
-use gw_meaning::{Body, Definition, Replication, Statement};
+use gw_meaning::{Body, Definition, Edit, Replication, Statement};
 use gw_model::Version;
 use gw_names::Name;
 use gw_nums::put_decimal;
-use gw_touch::{Edit, storage_place};
+use gw_touch::storage_place;
 use std::alloc::{AllocError, Global};
 
 /// The edited version, or the first refusal, in the order E1, E4, E5, E6, E2, E3. E7 may come in place of any.

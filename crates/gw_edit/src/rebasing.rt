@@ -2,7 +2,7 @@
 ghost use Rattle.std.specs.Prelude.{◌≡◌, ℕ, IsTrue, IsFalse};
 ghost use Rattle.gw_meaning.specs.Listing.{Listing};
 ghost use Rattle.gw_record.specs.Tape.{Records};
-ghost use Rattle.gw_touch.specs.declared.edit.Edit.{Edit};
+ghost use Rattle.gw_meaning.specs.declared.edit.Edit.{Edit};
 ghost use Rattle.gw_touch.specs.Touching.{touching_of, touched_in};
 ghost use Rattle.gw_touch.specs.Touched.{touched_step, IsBefore};
 ghost use Rattle.gw_edit.specs.Rebasing.{IsRebased};

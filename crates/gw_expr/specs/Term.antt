@@ -1,36 +1,16 @@
--- What an operand says, without where it lies in memory. (Manual; the values, the expressions, the names of
--- entities, the labels, the fractions, the names of definitions and the queue disciplines of the profile.)
+-- What an operand says: a single value, an expression, the name of an entity, a block's label, a fraction in millionths,
+-- the name of a storage's or of a table's definition, or a queue discipline. Names are in upper case. (Manual.)
 use Rattle.std.specs.Prelude.{ℕ, ◌≡◌, Bool, false, List, Some}
 use Rattle.std.specs.List.{list_any, slice_get}
 use Rattle.gw_expr.specs.declared.atom.Atom.{Atom}
 use Rattle.gw_expr.specs.declared.token.Token.{Token}
 use Rattle.gw_expr.specs.declared.token.Token.TheVariants as tokens
-use Rattle.gw_expr.specs.declared.expr.Discipline.{Discipline}
-use Rattle.gw_expr.specs.declared.expr.Node.{Node}
-use Rattle.gw_expr.specs.declared.expr.Node.TheVariants as node
+use Rattle.gw_expr.specs.declared.expr.Expr.{Expr}
+pub use Rattle.gw_expr.specs.declared.expr.Expr.TheVariants.{Value, Computed, Named, Label, Fraction, Defined, Table, Order}
 
--- an operand: a single value, an expression, the name of an entity, a block's label, a fraction in millionths, the name
--- of a storage's or of a table's definition, or a queue discipline; names and labels are in upper case
-pub data Term : Type 0 where
-  Value : Atom → Term
-  Computed : List Token → Term
-  Named : List ℕ → Term
-  Label : List ℕ → Term
-  Fraction : ℕ → Term
-  Defined : List ℕ → Term
-  Table : List ℕ → Term
-  Order : Discipline → Term
-
--- what a node says
-abbrev pub term_of : Node → Term
-term_of (node.Value atom) = Value atom
-term_of (node.Computed tokens) = Computed tokens.items
-term_of (node.Named name) = Named name
-term_of (node.Label name) = Label name
-term_of (node.Fraction millionths) = Fraction millionths
-term_of (node.Defined name) = Defined name
-term_of (node.Table name) = Table name
-term_of (node.Order discipline) = Order discipline
+-- an operand, as it is kept
+abbrev pub Term : Type 0
+Term = Expr
 
 -- whether a test holds of some value in an operand: the single one, or one in the expression
 abbrev pub holds_of_token : (Atom → Bool) → Token → Bool

@@ -5,7 +5,7 @@ ghost use Rattle.gw_expr.specs.Worlds.{Says, Evaluates, Comes, in_place};
 
 use crate::atom::Atom;
 use crate::attribute::{Sna, Subject};
-use crate::expr::{Expr, Node};
+use crate::expr::Expr;
 use crate::few_values::{FEW, FewValues};
 use crate::function::Function;
 use crate::halt::Halt;
@@ -30,8 +30,8 @@ pub fn eval<D: Defs, W: World>(operand: &Expr, defs: &D, world: &mut W) -> Resul
     ensures { Evaluates (Says (D.variable_of defs.now) (D.function_of defs.now)) W.replies
         (value_of operand.now) result world.old world.new }
 {
-    match operand.node() {
-        Node::Value(atom) => of_atom(defs, world, DEEPEST, atom),
+    match operand {
+        Expr::Value(atom) => of_atom(defs, world, DEEPEST, atom),
         _ => term(defs, world, DEEPEST, operand),
     }
 }
@@ -60,10 +60,12 @@ fn term<D: Defs, W: World>(defs: &D, world: &mut W, depth: u32, operand: &Expr) 
     ensures { Evaluates (Says (D.variable_of defs.now) (D.function_of defs.now)) W.replies
         (value_by (definitions_within depth) operand.now) result world.old world.new }
 {
-    match operand.node() {
-        Node::Value(atom) => alone(defs, world, depth, atom),
-        Node::Computed(tokens) if tokens.len() > FEW => computed_long(defs, world, depth, tokens),
-        Node::Computed(tokens) => computed(defs, world, depth, tokens),
+    match operand {
+        Expr::Value(atom) => alone(defs, world, depth, atom),
+        Expr::Computed(tokens) if tokens.as_slice().len() > FEW => {
+            computed_long(defs, world, depth, tokens.as_slice())
+        }
+        Expr::Computed(tokens) => computed(defs, world, depth, tokens.as_slice()),
         _ => Err(Halt::stop(Stop::Range)),
     }
 }
@@ -344,8 +346,8 @@ fn is_random(class: Class) -> bool
 fn random_of(operand: &Expr) -> Option<&Subject>
     ensures { option_copied result ≡ random_of operand.now }
 {
-    match operand.node() {
-        Node::Value(Atom::Attribute(class, of)) if is_random(*class) => Some(of),
+    match operand {
+        Expr::Value(Atom::Attribute(class, of)) if is_random(*class) => Some(of),
         _ => None,
     }
 }

@@ -8,7 +8,7 @@ use gw_nums::Millionths;
 use std::alloc::{AllocError, Global};
 
 /// How a FUNCTION goes between its points.
-#[derive(Clone, Copy)]
+#[derive(Clone, Copy, PartialEq, Eq)]
 pub enum FunctionType {
     /// Type C: along the straight lines between them.
     Continuous,
@@ -31,7 +31,7 @@ struct Neighbours {
 }
 
 /// A FUNCTION of one argument, by points. (Manual: types C and D.)
-#[derive(Drop)]
+#[derive(Drop, PartialEq, Eq)]
 pub struct Function {
     /// What is evaluated to find the argument. A random number that stands there as written is one in millionths.
     pub argument: Expr,

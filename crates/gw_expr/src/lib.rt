@@ -1,7 +1,7 @@
 //! Operands: what an operand says, what it comes to, and the stops that its evaluation or its block may end a run with.
 //!
-//! An [`Expr`] is seen as a [`Term`], so that what stands above names no node. An expression is kept in postfix order,
-//! as a list of [`Token`]s: what goes over its values goes over a list. [`symbol_of`] says which bytes are parentheses
+//! An [`Expr`] is plain data. An expression is kept in postfix order, as a list of [`Token`]s: what goes over its values
+//! goes over a list. [`symbol_of`] says which bytes are parentheses
 //! and operators, and which operators bind tighter.
 //!
 //! What an operand comes to is defined as a program of questions (specs/Evaluation), and [`eval`] evaluates it over any
@@ -26,7 +26,7 @@ mod world;
 pub use atom::Atom;
 pub use attribute::{Sna, Subject};
 pub use evaluator::{eval, eval_function, is_of_function};
-pub use expr::{Discipline, Expr, Node};
+pub use expr::{Discipline, Expr};
 pub use function::{Function, FunctionType, Point};
 pub use halt::{End, Halt};
 pub use laws::{

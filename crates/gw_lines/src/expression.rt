@@ -3,7 +3,7 @@ ghost use Rattle.gw_lines.specs.Expressions.{before, completed, settled, taken, 
 
 use crate::atom::atom_of;
 use crate::listed::shallower;
-use gw_expr::{Expr, Operator, Symbol, Token, symbol_of};
+use gw_expr::{Expr, Operator, Row, Symbol, Token, symbol_of};
 use std::alloc::{AllocError, Global};
 use std::marker::Model;
 
@@ -69,7 +69,7 @@ fn computed(read: Option<Vec<Token>>) -> Result<Option<Expr>, AllocError>
     ensures { IfOk result (λ o. o ≡ computed (option_map (λ v. v.items) read)) }
 {
     match read {
-        Some(tokens) => Ok(Some(Expr::computed(tokens))),
+        Some(tokens) => Ok(Some(Expr::Computed(Row::from_vec(tokens)))),
         None => Ok(None),
     }
 }

@@ -5,7 +5,7 @@ ghost use Rattle.gw_lines.specs.Parts.{others_of};
 ghost use Rattle.gw_lines.specs.Fields.{first_of, value_in, whole_in, points_in, constant_in, constant_of, scale_with, classes_in, is_misfit, are_misfits, misfits};
 
 use crate::operand::Operand;
-use gw_expr::{Atom, Expr, FunctionType, Node};
+use gw_expr::{Atom, Expr, FunctionType};
 use gw_meaning::Classes;
 use gw_names::{DefinitionVerb, Verb};
 use gw_nums::Val;
@@ -75,11 +75,11 @@ pub(crate) fn constant_in(operand: Option<&Operand>) -> Option<Val>
 fn constant_of(value: &Expr) -> Option<Val>
     ensures { result ≡ constant_of value.now }
 {
-    match value.node() {
-        Node::Value(Atom::Constant(value)) => Some(*value),
-        Node::Value(_) | Node::Computed(_) | Node::Named(_) => None,
-        Node::Label(_) | Node::Fraction(_) => None,
-        Node::Defined(_) | Node::Table(_) | Node::Order(_) => None,
+    match value {
+        Expr::Value(Atom::Constant(value)) => Some(*value),
+        Expr::Value(_) | Expr::Computed(_) | Expr::Named(_) => None,
+        Expr::Label(_) | Expr::Fraction(_) => None,
+        Expr::Defined(_) | Expr::Table(_) | Expr::Order(_) => None,
     }
 }
 

@@ -7,7 +7,7 @@ use crate::expression::{read_bare, read_expression};
 use crate::form::Kind;
 use crate::number::{LIMIT, fraction, from_one};
 use gw_expr::{Atom, Discipline, Expr, FunctionType};
-use gw_names::Name;
+use gw_names::{EntityName, Name, StorageName};
 use gw_nums::Val;
 use std::alloc::{AllocError, Global};
 
@@ -56,7 +56,7 @@ fn given(alloc: Global, kind: Kind, text: &[u8]) -> Result<Option<Option<Operand
         }
         Kind::Entity => Ok(as_value(entity(alloc, text)?)),
         Kind::Fraction => match fraction(text) {
-            Some(millionths) => Ok(Some(Some(Operand::Value(Expr::fraction(millionths))))),
+            Some(millionths) => Ok(Some(Some(Operand::Value(Expr::Fraction(millionths))))),
             None => Ok(None),
         },
         Kind::Label => Ok(as_value(label(alloc, text)?)),
@@ -80,9 +80,9 @@ fn order(text: &[u8]) -> Option<Expr>
     ensures { result ≡ order_of text.now }
 {
     if text == b"FIFO".as_slice() {
-        Some(Expr::order(Discipline::Fifo))
+        Some(Expr::Order(Discipline::Fifo))
     } else if text == b"LIFO".as_slice() {
-        Some(Expr::order(Discipline::Lifo))
+        Some(Expr::Order(Discipline::Lifo))
     } else {
         None
     }
@@ -141,7 +141,7 @@ fn or_computed(alloc: Global, read: Option<Expr>, text: &[u8]) -> Result<Option<
 fn atomic(read: Option<Atom>) -> Option<Expr>
     ensures { result ≡ atomic read }
 {
-    Some(Expr::value(read?))
+    Some(Expr::Value(read?))
 }
 
 // The entity that a text is: a name, a number from 1, an attribute or an expression in parentheses.
@@ -149,7 +149,7 @@ fn entity(alloc: Global, text: &[u8]) -> Result<Option<Expr>, AllocError>
     ensures { IfOk result (λ o. o ≡ entity_of text.now) }
 {
     match Name::read(alloc, text)? {
-        Some(name) => Ok(Some(Expr::named(name))),
+        Some(name) => Ok(Some(Expr::Named(EntityName::new(name)))),
         None => or_computed(
             alloc,
             atomic(or_attribute(alloc, numbered(text), text)?),
@@ -170,7 +170,7 @@ fn label(alloc: Global, text: &[u8]) -> Result<Option<Expr>, AllocError>
     ensures { IfOk result (λ o. o ≡ label_of text.now) }
 {
     match Name::read(alloc, text)? {
-        Some(name) => Ok(Some(Expr::label(name))),
+        Some(name) => Ok(Some(Expr::Label(name))),
         None => Ok(None),
     }
 }
@@ -180,7 +180,7 @@ fn table(alloc: Global, text: &[u8]) -> Result<Option<Expr>, AllocError>
     ensures { IfOk result (λ o. o ≡ table_of text.now) }
 {
     match Name::read(alloc, text)? {
-        Some(name) => Ok(Some(Expr::table(name))),
+        Some(name) => Ok(Some(Expr::Table(name))),
         None => Ok(None),
     }
 }
@@ -190,7 +190,7 @@ fn defined(alloc: Global, text: &[u8]) -> Result<Option<Expr>, AllocError>
     ensures { IfOk result (λ o. o ≡ defined_of text.now) }
 {
     match Name::read(alloc, text)? {
-        Some(name) => Ok(Some(Expr::defined(name))),
+        Some(name) => Ok(Some(Expr::Defined(StorageName::new(name)))),
         None => Ok(None),
     }
 }

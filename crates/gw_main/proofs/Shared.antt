@@ -3,7 +3,7 @@ use Rattle.std.proofs.Common.{◌≡◌, ◌⊎◌, ◌≤◌, inl, inr, ℕ, Li
 use Rattle.std.specs.Prelude.{Result, IfOk, IfErr}
 use Rattle.std.proofs.lemmas.Result.{IfOk-weaker, IfErr-weaker}
 use Rattle.gw_meaning.specs.Listing.{Listing}
-use Rattle.gw_touch.specs.declared.edit.Edit.{Edit}
+use Rattle.gw_meaning.specs.declared.edit.Edit.{Edit}
 use Rattle.gw_desk.specs.Book.{Book}
 use Rattle.gw_script.specs.declared.fault.Fault.{Fault}
 use Rattle.gw_script.specs.declared.fault.Fault.TheVariants as faults

@@ -1,7 +1,7 @@
 -- A session over an open model: alone over its desk, or over a seat of a bench, beside workers. (Our own.)
 use Rattle.std.specs.Prelude.{◌≡◌, ◌≤◌, ℕ, List, []}
 use Rattle.gw_meaning.specs.Listing.{Listing}
-use Rattle.gw_touch.specs.declared.edit.Edit.{Edit}
+use Rattle.gw_meaning.specs.declared.edit.Edit.{Edit}
 use Rattle.gw_edit.specs.Leading.{version_of}
 use Rattle.gw_desk.specs.Book.{Book}
 use Rattle.gw_bench.specs.Telling.{SeatDoes, SeatWorks}

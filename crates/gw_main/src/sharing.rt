@@ -1,6 +1,6 @@
 // A session alone, or beside workers.
 ghost use Rattle.std.specs.Prelude.{◌≡◌, ◌⊎◌, ◌≤◌, List, [], IfOk, IfErr};
-ghost use Rattle.gw_touch.specs.declared.edit.Edit.{Edit};
+ghost use Rattle.gw_meaning.specs.declared.edit.Edit.{Edit};
 ghost use Rattle.gw_desk.specs.Book.{Book};
 ghost use Rattle.gw_script.specs.declared.fault.Fault.TheVariants as faults;
 ghost use Rattle.gw_script.specs.Opening.{Opens, Refuses};

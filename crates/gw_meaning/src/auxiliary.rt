@@ -1,6 +1,6 @@
 /// What stands beside the operands of a block: a sign after operand A, as of an ASSIGN, or the operator in front of
 /// them, as of a TEST. No verb takes both.
-#[derive(Clone, Copy)]
+#[derive(Clone, Copy, PartialEq, Eq)]
 pub enum Auxiliary {
     Absent,
     /// `+`: the value is added.
@@ -26,7 +26,7 @@ pub enum Auxiliary {
 }
 
 /// The condition at which a GATE lets its transaction pass.
-#[derive(Clone, Copy)]
+#[derive(Clone, Copy, PartialEq, Eq)]
 pub enum Condition {
     /// `U`: the facility is owned.
     InUse,
@@ -47,7 +47,7 @@ pub enum Condition {
 }
 
 /// What a LOGIC makes of its switch.
-#[derive(Clone, Copy)]
+#[derive(Clone, Copy, PartialEq, Eq)]
 pub enum Switching {
     /// `S`: it is set.
     Set,

@@ -10,6 +10,7 @@
 mod asker;
 mod auxiliary;
 mod destination;
+mod edit;
 mod entity_change;
 mod item;
 mod moves;
@@ -25,6 +26,7 @@ mod watched;
 pub use asker::Asker;
 pub use auxiliary::{Auxiliary, Condition, Switching};
 pub use destination::Destination;
+pub use edit::Edit;
 pub use entity_change::{EntityChange, FacilityUpdate, QueueUpdate, StorageUpdate, Update};
 pub use item::{Asked, Item, Outcome};
 pub use moves::{Arrival, Change, Fate, Move};

@@ -11,7 +11,7 @@ use gw_nums::Val;
 use std::alloc::{AllocError, Global};
 
 /// A statement of a model.
-#[derive(Drop)]
+#[derive(Drop, PartialEq, Eq)]
 pub struct Statement {
     pub label: Option<Name>,
     pub body: Body,
@@ -21,7 +21,7 @@ pub struct Statement {
 }
 
 /// What a statement is: a block, a definition or a command.
-#[derive(Drop)]
+#[derive(Drop, PartialEq, Eq)]
 pub enum Body {
     Block(Block),
     Definition(Definition),
@@ -29,7 +29,7 @@ pub enum Body {
 }
 
 /// A block: its verb, and its operands from A on, as many as its verb may have. An absent operand is `None`.
-#[derive(Drop)]
+#[derive(Drop, PartialEq, Eq)]
 pub struct Block {
     pub verb: BlockVerb,
     pub auxiliary: Auxiliary,
@@ -37,7 +37,7 @@ pub struct Block {
 }
 
 /// A definition of its statement's label.
-#[derive(Drop)]
+#[derive(Drop, PartialEq, Eq)]
 pub enum Definition {
     /// A storage of so many units, 1 to 1,000,000,000.
     Storage { capacity: u64 },
@@ -52,7 +52,7 @@ pub enum Definition {
 }
 
 /// A command.
-#[derive(Drop)]
+#[derive(Drop, PartialEq, Eq)]
 pub enum Command {
     /// Runs until `count` (1 to 1,000,000,000) is taken away by TERMINATEs.
     Start { count: u64 },
@@ -65,14 +65,14 @@ pub enum Command {
 }
 
 /// A statement of a version with its id, which edits leave alone.
-#[derive(Drop)]
+#[derive(Drop, PartialEq, Eq)]
 pub struct Numbered {
     pub number: StatementId,
     pub statement: Statement,
 }
 
 /// A replication of a version: its number, 1 to 1,000,000,000, and its seed, 1 to 2,147,483,646.
-#[derive(Clone, Copy)]
+#[derive(Clone, Copy, PartialEq, Eq)]
 pub struct Replication {
     pub number: u64,
     pub seed: u64,

@@ -7,7 +7,7 @@ use std::alloc::AllocError;
 use std::marker::Model;
 
 /// A TABLE: what its values are, and the classes in which a report counts them.
-#[derive(Drop)]
+#[derive(Drop, PartialEq, Eq)]
 pub struct Table {
     /// What is evaluated for each value.
     pub argument: Expr,
@@ -16,7 +16,7 @@ pub struct Table {
 
 /// The classes of a TABLE, 2 to 1,000. The first takes each value up to its limit, the last each value above the
 /// others, and those between are equally wide. Each limit is a value.
-#[derive(Clone, Copy)]
+#[derive(Clone, Copy, PartialEq, Eq)]
 pub struct Classes {
     first: Val,
     width: u32,

@@ -7,7 +7,7 @@ ghost use Rattle.std.specs.List.{list_any};
 ghost use Rattle.gw_expr.specs.Term.{holds_of_token};
 ghost use Rattle.gw_model.specs.Faults.{has_no_value, is_of_equ, has_unknown_definition, has_equ_named, holds_in, holds_of, is_undefined, is_equ_named, wanted_verb, has_verb, has_verb_or_equ, lacks_definition, wants_equ, lacks_name, has_name};
 
-use gw_expr::{Atom, Expr, Node, Subject, Token};
+use gw_expr::{Atom, Expr, Subject, Token};
 use gw_meaning::{Body, Definition, Numbered};
 use gw_names::{Class, DefinitionVerb, Name};
 use std::collections::BTreeMap;
@@ -89,12 +89,12 @@ fn is_undefined(definitions: &BTreeMap<Name, Definition>, expr: &Expr) -> bool
     ensures { result ≡
         is_undefined (λ name. tree.get (slice_cmp nat_cmp) definitions.now name) expr.now }
 {
-    match expr.node() {
-        Node::Defined(name) => lacks_verb(definitions, DefinitionVerb::Storage, name.name()),
-        Node::Table(name) => lacks_verb(definitions, DefinitionVerb::Table, name),
-        Node::Value(atom) => has_no_value(definitions, atom),
-        Node::Computed(tokens) => any_lacks_a_value(definitions, tokens),
-        Node::Named(_) | Node::Label(_) | Node::Fraction(_) | Node::Order(_) => false,
+    match expr {
+        Expr::Defined(name) => lacks_verb(definitions, DefinitionVerb::Storage, name.name()),
+        Expr::Table(name) => lacks_verb(definitions, DefinitionVerb::Table, name),
+        Expr::Value(atom) => has_no_value(definitions, atom),
+        Expr::Computed(tokens) => any_lacks_a_value(definitions, tokens.as_slice()),
+        Expr::Named(_) | Expr::Label(_) | Expr::Fraction(_) | Expr::Order(_) => false,
     }
 }
 
@@ -153,12 +153,12 @@ fn is_equ_named(definitions: &BTreeMap<Name, Definition>, expr: &Expr) -> bool
     ensures { result ≡
         is_equ_named (λ name. tree.get (slice_cmp nat_cmp) definitions.now name) expr.now }
 {
-    match expr.node() {
-        Node::Defined(name) => is_equ(definitions, name.name()),
-        Node::Table(name) => is_equ(definitions, name),
-        Node::Value(atom) => is_of_equ(definitions, atom),
-        Node::Computed(tokens) => any_is_of_equ(definitions, tokens),
-        Node::Named(_) | Node::Label(_) | Node::Fraction(_) | Node::Order(_) => false,
+    match expr {
+        Expr::Defined(name) => is_equ(definitions, name.name()),
+        Expr::Table(name) => is_equ(definitions, name),
+        Expr::Value(atom) => is_of_equ(definitions, atom),
+        Expr::Computed(tokens) => any_is_of_equ(definitions, tokens.as_slice()),
+        Expr::Named(_) | Expr::Label(_) | Expr::Fraction(_) | Expr::Order(_) => false,
     }
 }
 

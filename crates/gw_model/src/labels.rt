@@ -7,7 +7,7 @@ ghost use Rattle.std.specs.List.{list_any};
 ghost use Rattle.gw_expr.specs.Term.{holds_of_token};
 ghost use Rattle.gw_model.specs.Faults.{counts_unknown, has_unknown_label, holds_in, holds_of, is_unknown_label, is_of_block, lacks_name};
 
-use gw_expr::{Atom, Expr, Node, Subject, Token};
+use gw_expr::{Atom, Expr, Subject, Token};
 use gw_meaning::{Body, Definition, Numbered, StatementId};
 use gw_names::{Class, Name};
 use std::collections::BTreeMap;
@@ -65,12 +65,12 @@ fn is_unknown(labels: &BTreeMap<Name, StatementId>, expr: &Expr) -> bool
     ensures { result ≡
         is_unknown_label (λ name. is_some (tree.get (slice_cmp nat_cmp) labels.now name)) expr.now }
 {
-    match expr.node() {
-        Node::Label(name) => labels.get(name).is_none(),
-        Node::Value(atom) => counts_unknown(labels, atom),
-        Node::Computed(tokens) => any_unknown(labels, tokens),
-        Node::Named(_) | Node::Fraction(_) => false,
-        Node::Defined(_) | Node::Table(_) | Node::Order(_) => false,
+    match expr {
+        Expr::Label(name) => labels.get(name).is_none(),
+        Expr::Value(atom) => counts_unknown(labels, atom),
+        Expr::Computed(tokens) => any_unknown(labels, tokens.as_slice()),
+        Expr::Named(_) | Expr::Fraction(_) => false,
+        Expr::Defined(_) | Expr::Table(_) | Expr::Order(_) => false,
     }
 }
 

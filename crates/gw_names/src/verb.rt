@@ -10,7 +10,7 @@ pub enum Verb {
 }
 
 /// A verb of a block.
-#[derive(Clone, Copy)]
+#[derive(Clone, Copy, PartialEq, Eq)]
 pub enum BlockVerb {
     Generate,
     Advance,

@@ -2,8 +2,8 @@
 use crate::dice::Dice;
 use gw_bench::{Bench, Leg, Pass, RowName};
 use gw_desk::Answer;
-use gw_edit::Edit;
 use gw_expr::Row as Text;
+use gw_meaning::Edit;
 use gw_names::Name;
 use std::alloc::Global;
 use std::mem;

@@ -1,7 +1,8 @@
 // What a race was answered, beside runs from zero.
 use crate::moves::Told;
 use gw_desk::{Answer, Desk};
-use gw_edit::{Edit, EditFault, same_version};
+use gw_edit::{EditFault, same_version};
+use gw_meaning::Edit;
 use gw_model::Version;
 use std::alloc::Global;
 

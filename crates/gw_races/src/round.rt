@@ -5,7 +5,7 @@ use crate::model::version;
 use crate::moves::{Told, moves};
 use crate::replay::is_sound;
 use gw_bench::{Bench, Pass, Row, RowName};
-use gw_edit::Edit;
+use gw_meaning::Edit;
 use gw_model::Version;
 use std::alloc::Global;
 use std::marker::Brand;

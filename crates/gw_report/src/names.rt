@@ -12,7 +12,7 @@ use crate::column::{Cell, Column, Side, put_row};
 use crate::position::position_of;
 use crate::section::put_section;
 use crate::sheet::Sheet;
-use gw_expr::{Atom, Expr, Node, Subject, Token};
+use gw_expr::{Atom, Expr, Subject, Token};
 use gw_meaning::{Body, Definition, Numbered};
 use gw_model::Version;
 use gw_names::{Key, Name};
@@ -105,14 +105,14 @@ fn add_operand(names: &mut IndexSet<Key>, operand: &Option<Expr>) -> Result<(), 
 fn add_term(names: &mut IndexSet<Key>, expr: &Expr) -> Result<(), AllocError>
     ensures { OnOk result (names.new.keys ≡ insert_all key_eq names.old.keys (as_keys (names_in_term expr.now))) }
 {
-    match expr.node() {
-        Node::Value(atom) => add_atom(names, atom),
-        Node::Computed(tokens) => add_tokens(names, tokens),
-        Node::Named(name) => add_name(names, name.name()),
-        Node::Label(name) => add_name(names, name),
-        Node::Defined(name) => add_name(names, name.name()),
-        Node::Table(name) => add_name(names, name),
-        Node::Fraction(_) | Node::Order(_) => Ok(()),
+    match expr {
+        Expr::Value(atom) => add_atom(names, atom),
+        Expr::Computed(tokens) => add_tokens(names, tokens.as_slice()),
+        Expr::Named(name) => add_name(names, name.name()),
+        Expr::Label(name) => add_name(names, name),
+        Expr::Defined(name) => add_name(names, name.name()),
+        Expr::Table(name) => add_name(names, name),
+        Expr::Fraction(_) | Expr::Order(_) => Ok(()),
     }
 }
 

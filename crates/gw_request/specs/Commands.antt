@@ -1,7 +1,7 @@
 -- The table of script lines: each command's word, what stands after it, and what the line asks for. (Our own.)
 use Rattle.std.specs.Prelude.{ℕ, List, [], ◌∷◌, Option, codes, find}
 use Rattle.std.specs.Str.{bytes_eq}
-use Rattle.gw_touch.specs.declared.edit.Edit.TheVariants as edits
+use Rattle.gw_meaning.specs.declared.edit.Edit.TheVariants as edits
 use Rattle.gw_request.specs.declared.command.Command.{Command}
 use Rattle.gw_request.specs.declared.command.Command.TheVariants.{Bare, Single, Pair, Text, Capacity}
 use Rattle.gw_request.specs.declared.command.Bare.TheVariants as bares

@@ -8,8 +8,8 @@ use crate::number::{next_number, number_of};
 use crate::request::Request;
 use crate::words::cut;
 use gw_expr::Row;
+use gw_meaning::Edit;
 use gw_names::Name;
-use gw_touch::Edit;
 use std::alloc::{AllocError, Global};
 
 // What a command asks for, where the words after it are those that it takes.

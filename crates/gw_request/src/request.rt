@@ -4,7 +4,7 @@ ghost use Rattle.gw_request.specs.Requests.{request_of, may_want_memory};
 use crate::arguments::read_arguments;
 use crate::command::Command;
 use crate::words::{first_word, is_all_blank};
-use gw_touch::Edit;
+use gw_meaning::Edit;
 use std::alloc::{AllocError, Global};
 
 /// A script line's longest length in bytes, without its line end.

@@ -12,8 +12,8 @@ use Rattle.gw_request.specs.declared.command.Text.TheVariants as texts
 use Rattle.gw_request.specs.declared.request.Request.{Request}
 use Rattle.gw_request.specs.declared.request.Request.TheVariants as requests
 use Rattle.gw_request.specs.declared.request.Reason.TheVariants as reasons
-use Rattle.gw_touch.specs.declared.edit.Edit.{Edit}
-use Rattle.gw_touch.specs.declared.edit.Edit.TheVariants as edits
+use Rattle.gw_meaning.specs.declared.edit.Edit.{Edit}
+use Rattle.gw_meaning.specs.declared.edit.Edit.TheVariants as edits
 use Rattle.gw_request.specs.Words.{is_blank, first_word, cut}
 use Rattle.gw_request.specs.Numbers.{number_of, next_number}
 use Rattle.gw_request.specs.Commands.{command_of}

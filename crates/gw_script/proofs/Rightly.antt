@@ -3,7 +3,7 @@ use Rattle.std.proofs.Common.{◌≡◌, ℕ, List, [], ◌∷◌, ◌++◌, Opt
 use Rattle.gw_meaning.specs.Listing.{Listing}
 use Rattle.gw_edit.specs.Spelled.{AreSpelled}
 use Rattle.gw_edit.proofs.SpelledLaws.{edits_are_spelled}
-use Rattle.gw_touch.specs.declared.edit.Edit.{Edit}
+use Rattle.gw_meaning.specs.declared.edit.Edit.{Edit}
 use Rattle.gw_desk.specs.declared.play.Event.{Event}
 use Rattle.gw_desk.specs.declared.play.Event.TheVariants as events
 use Rattle.gw_desk.specs.declared.play.Reply.{Reply}

@@ -3,7 +3,8 @@ ghost use Rattle.std.specs.Prelude.{◌≡◌, ◌++◌, ◌+◌, ◌<◌, ◌�
 ghost use Rattle.gw_script.specs.Changes.{Edits, accepted, refusal_of, detail_of};
 
 use gw_desk::Keeper;
-use gw_edit::{Edit, EditFault};
+use gw_edit::EditFault;
+use gw_meaning::Edit;
 use gw_nums::put_decimal;
 use std::alloc::{AllocError, Global};
 

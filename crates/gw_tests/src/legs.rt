@@ -1,6 +1,6 @@
 use gw_desk::{Answer, Desk, Event, Reply};
-use gw_edit::Edit;
 use gw_expr::Row;
+use gw_meaning::Edit;
 use gw_script::{Options, open};
 use std::alloc::{AllocError, Global};
 use std::test::Fail;

@@ -14,8 +14,8 @@ use Rattle.gw_meaning.specs.Questions.{ask}
 use Rattle.gw_model.specs.Spliced.{with_splice}
 use Rattle.gw_model.specs.Well.{Well}
 use Rattle.gw_model.proofs.Numbers.{numbered_spliced}
-use Rattle.gw_touch.specs.declared.edit.Edit.{Edit}
-use Rattle.gw_touch.specs.declared.edit.Edit.TheVariants as edits
+use Rattle.gw_meaning.specs.declared.edit.Edit.{Edit}
+use Rattle.gw_meaning.specs.declared.edit.Edit.TheVariants as edits
 use Rattle.gw_touch.specs.Touches.{Defines, FirstStorage, in_front, OfOne, OfSplice, deletion, insertion, replacement, OfChange, as_deleted, as_inserted, changed_block, changed_definition, changed_generates, new_label, old_label, OneKind, two_definitions, Touches, by_capacity, by_change, by_delete, by_horizon, by_insert, by_seed}
 use Rattle.gw_touch.specs.TouchedAlike.{AlikeAt, IsMade, TouchedAlike, beyond_both, where_changed, where_deleted, where_inserted, TouchesWhatDiffers}
 use Rattle.gw_touch.proofs.BesideLaws.{Beside, one_spared}

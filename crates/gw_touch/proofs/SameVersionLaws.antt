@@ -1,4 +1,4 @@
--- Versions that compare as one are one, and so are edits; and each compares as one with itself.
+-- Versions that compare as one are one; and each compares as one with itself.
 use Rattle.std.proofs.Common.{◌≡◌, ℕ, ℤ, ◌==◌, ◌&&◌, ◌≤◌, ◌<◌, true, false, length, arith, List, [], ◌∷◌, Option, Some, None, refl, ap, ap₂, subst, ◌∙◌}
 use Rattle.std.specs.Str.{bytes_eq}
 use Rattle.std.specs.Ordering.{int_eq}
@@ -18,10 +18,8 @@ use Rattle.gw_meaning.specs.declared.statement.Definition.TheVariants as definit
 use Rattle.gw_meaning.specs.declared.statement.Command.{Command}
 use Rattle.gw_meaning.specs.declared.statement.Command.TheVariants as commands
 use Rattle.gw_meaning.specs.Listing.{Listing}
-use Rattle.gw_touch.specs.declared.edit.Edit.{Edit}
-use Rattle.gw_touch.specs.declared.edit.Edit.TheVariants as edits
 use Rattle.gw_touch.specs.Same.{same_term, same_label}
-use Rattle.gw_touch.specs.SameVersions.{same_classes, same_table, same_definition, same_stream, same_streams, same_command, same_content, same_line, same_lines, same_replications, same_listing, same_edit}
+use Rattle.gw_touch.specs.SameVersions.{same_classes, same_table, same_definition, same_stream, same_streams, same_command, same_content, same_line, same_lines, same_replications, same_listing}
 use Rattle.gw_touch.proofs.SameBlocks.{term_same, block_same, function_same, label_same}
 use Rattle.gw_touch.proofs.SameItself.{bytes_itself, term_itself, block_itself, function_itself, one_label}
 
@@ -247,92 +245,3 @@ pub listing_itself : (t u : Listing) → t ≡ u → same_listing t u ≡ true
 listing_itself t u is = subst (λ (v : Listing). same_listing t v ≡ true) is (listing_with_itself t)
 
 -- ---- edits
-
-pub edits_same : (e d : Edit) → same_edit e d ≡ true → e ≡ d
-edits_same (edits.Insert m s) (edits.Insert n t) h =
-    let w = and_parts (m == n) (bytes_eq s t) h in
-    ap₂ (λ (k : ℕ) (x : List ℕ). edits.Insert k x) (eqb-true m n w.0) ((bytes_eq-Decides s t).0 w.1)
-edits_same (edits.Insert m s) (edits.Delete n) h = absurd cc
-edits_same (edits.Insert m s) (edits.Change n t) h = absurd cc
-edits_same (edits.Insert m s) (edits.Capacity b n) h = absurd cc
-edits_same (edits.Insert m s) (edits.Seed q t) h = absurd cc
-edits_same (edits.Insert m s) (edits.Replicate q t) h = absurd cc
-edits_same (edits.Insert m s) (edits.Drop q) h = absurd cc
-edits_same (edits.Insert m s) (edits.Horizon n) h = absurd cc
-edits_same (edits.Delete m) (edits.Insert n t) h = absurd cc
-edits_same (edits.Delete m) (edits.Delete n) h = ap (λ (k : ℕ). edits.Delete k) (eqb-true m n h)
-edits_same (edits.Delete m) (edits.Change n t) h = absurd cc
-edits_same (edits.Delete m) (edits.Capacity b n) h = absurd cc
-edits_same (edits.Delete m) (edits.Seed q t) h = absurd cc
-edits_same (edits.Delete m) (edits.Replicate q t) h = absurd cc
-edits_same (edits.Delete m) (edits.Drop q) h = absurd cc
-edits_same (edits.Delete m) (edits.Horizon n) h = absurd cc
-edits_same (edits.Change m s) (edits.Insert n t) h = absurd cc
-edits_same (edits.Change m s) (edits.Delete n) h = absurd cc
-edits_same (edits.Change m s) (edits.Change n t) h =
-    let w = and_parts (m == n) (bytes_eq s t) h in
-    ap₂ (λ (k : ℕ) (x : List ℕ). edits.Change k x) (eqb-true m n w.0) ((bytes_eq-Decides s t).0 w.1)
-edits_same (edits.Change m s) (edits.Capacity b n) h = absurd cc
-edits_same (edits.Change m s) (edits.Seed q t) h = absurd cc
-edits_same (edits.Change m s) (edits.Replicate q t) h = absurd cc
-edits_same (edits.Change m s) (edits.Drop q) h = absurd cc
-edits_same (edits.Change m s) (edits.Horizon n) h = absurd cc
-edits_same (edits.Capacity a m) (edits.Insert n t) h = absurd cc
-edits_same (edits.Capacity a m) (edits.Delete n) h = absurd cc
-edits_same (edits.Capacity a m) (edits.Change n t) h = absurd cc
-edits_same (edits.Capacity a m) (edits.Capacity b n) h =
-    let w = and_parts (bytes_eq a b) (m == n) h in
-    ap₂ (λ (x : List ℕ) (k : ℕ). edits.Capacity x k) ((bytes_eq-Decides a b).0 w.0) (eqb-true m n w.1)
-edits_same (edits.Capacity a m) (edits.Seed q t) h = absurd cc
-edits_same (edits.Capacity a m) (edits.Replicate q t) h = absurd cc
-edits_same (edits.Capacity a m) (edits.Drop q) h = absurd cc
-edits_same (edits.Capacity a m) (edits.Horizon n) h = absurd cc
-edits_same (edits.Seed r s) (edits.Insert n t) h = absurd cc
-edits_same (edits.Seed r s) (edits.Delete n) h = absurd cc
-edits_same (edits.Seed r s) (edits.Change n t) h = absurd cc
-edits_same (edits.Seed r s) (edits.Capacity b n) h = absurd cc
-edits_same (edits.Seed r s) (edits.Seed q t) h =
-    let w = and_parts (r == q) (s == t) h in
-    ap₂ (λ (k l : ℕ). edits.Seed k l) (eqb-true r q w.0) (eqb-true s t w.1)
-edits_same (edits.Seed r s) (edits.Replicate q t) h = absurd cc
-edits_same (edits.Seed r s) (edits.Drop q) h = absurd cc
-edits_same (edits.Seed r s) (edits.Horizon n) h = absurd cc
-edits_same (edits.Replicate r s) (edits.Insert n t) h = absurd cc
-edits_same (edits.Replicate r s) (edits.Delete n) h = absurd cc
-edits_same (edits.Replicate r s) (edits.Change n t) h = absurd cc
-edits_same (edits.Replicate r s) (edits.Capacity b n) h = absurd cc
-edits_same (edits.Replicate r s) (edits.Seed q t) h = absurd cc
-edits_same (edits.Replicate r s) (edits.Replicate q t) h =
-    let w = and_parts (r == q) (s == t) h in
-    ap₂ (λ (k l : ℕ). edits.Replicate k l) (eqb-true r q w.0) (eqb-true s t w.1)
-edits_same (edits.Replicate r s) (edits.Drop q) h = absurd cc
-edits_same (edits.Replicate r s) (edits.Horizon n) h = absurd cc
-edits_same (edits.Drop r) (edits.Insert n t) h = absurd cc
-edits_same (edits.Drop r) (edits.Delete n) h = absurd cc
-edits_same (edits.Drop r) (edits.Change n t) h = absurd cc
-edits_same (edits.Drop r) (edits.Capacity b n) h = absurd cc
-edits_same (edits.Drop r) (edits.Seed q t) h = absurd cc
-edits_same (edits.Drop r) (edits.Replicate q t) h = absurd cc
-edits_same (edits.Drop r) (edits.Drop q) h = ap (λ (k : ℕ). edits.Drop k) (eqb-true r q h)
-edits_same (edits.Drop r) (edits.Horizon n) h = absurd cc
-edits_same (edits.Horizon m) (edits.Insert n t) h = absurd cc
-edits_same (edits.Horizon m) (edits.Delete n) h = absurd cc
-edits_same (edits.Horizon m) (edits.Change n t) h = absurd cc
-edits_same (edits.Horizon m) (edits.Capacity b n) h = absurd cc
-edits_same (edits.Horizon m) (edits.Seed q t) h = absurd cc
-edits_same (edits.Horizon m) (edits.Replicate q t) h = absurd cc
-edits_same (edits.Horizon m) (edits.Drop q) h = absurd cc
-edits_same (edits.Horizon m) (edits.Horizon n) h = ap (λ (k : ℕ). edits.Horizon k) (eqb-true m n h)
-
-edit_with_itself : (e : Edit) → same_edit e e ≡ true
-edit_with_itself (edits.Insert m s) = and_from (m == m) (bytes_eq s s) (number_itself m) (bytes_itself s)
-edit_with_itself (edits.Delete m) = number_itself m
-edit_with_itself (edits.Change m s) = and_from (m == m) (bytes_eq s s) (number_itself m) (bytes_itself s)
-edit_with_itself (edits.Capacity a m) = and_from (bytes_eq a a) (m == m) (bytes_itself a) (number_itself m)
-edit_with_itself (edits.Seed r s) = and_from (r == r) (s == s) (number_itself r) (number_itself s)
-edit_with_itself (edits.Replicate r s) = and_from (r == r) (s == s) (number_itself r) (number_itself s)
-edit_with_itself (edits.Drop r) = number_itself r
-edit_with_itself (edits.Horizon m) = number_itself m
-
-pub edit_itself : (e d : Edit) → e ≡ d → same_edit e d ≡ true
-edit_itself e d is = subst (λ (x : Edit). same_edit e x ≡ true) is (edit_with_itself e)

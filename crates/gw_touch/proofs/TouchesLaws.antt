@@ -13,8 +13,8 @@ use Rattle.gw_meaning.specs.declared.statement.Body.TheVariants as bodies
 use Rattle.gw_meaning.specs.declared.statement.Definition.TheVariants as definitions
 use Rattle.gw_meaning.specs.declared.statement.Numbered.{Numbered}
 use Rattle.gw_meaning.specs.Listing.{Listing, defines, definition_if, definition_of_body, has_label, nth, seed_at}
-use Rattle.gw_touch.specs.declared.edit.Edit.{Edit}
-use Rattle.gw_touch.specs.declared.edit.Edit.TheVariants as edits
+use Rattle.gw_meaning.specs.declared.edit.Edit.{Edit}
+use Rattle.gw_meaning.specs.declared.edit.Edit.TheVariants as edits
 use Rattle.gw_touch.specs.declared.touch.Probe.TheVariants.{One, Beyond}
 use Rattle.gw_touch.specs.Touching.{capacity_probes, everywhere, is_capacity, is_touched, line_probes, same_seed, seed_touching, splice_probes, storage_in, storage_place, touch_of, touched_in}
 use Rattle.gw_touch.specs.Touches.{Defines, FirstStorage, HasNoStorage, OfSplice, deletion, insertion, replacement, Touches, by_capacity, by_change, by_delete, by_horizon, by_insert, by_seed, TouchesExactly}

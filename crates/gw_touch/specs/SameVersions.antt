@@ -1,4 +1,4 @@
--- When two versions are one, and when two edits are: where all that they hold is. (Our own.)
+-- When two versions are one: where all that they hold is. (Our own.)
 use Rattle.std.specs.Prelude.{ℕ, ◌==◌, Bool, true, false, ◌&&◌, List, [], ◌∷◌, Option, Some, None}
 use Rattle.std.specs.Str.{bytes_eq}
 use Rattle.std.specs.Ordering.{int_eq}
@@ -13,8 +13,6 @@ use Rattle.gw_meaning.specs.declared.statement.Definition.TheVariants as definit
 use Rattle.gw_meaning.specs.declared.statement.Command.{Command}
 use Rattle.gw_meaning.specs.declared.statement.Command.TheVariants as commands
 use Rattle.gw_meaning.specs.Listing.{Listing}
-use Rattle.gw_touch.specs.declared.edit.Edit.{Edit}
-use Rattle.gw_touch.specs.declared.edit.Edit.TheVariants as edits
 use Rattle.gw_touch.specs.Same.{same_term, same_block, same_function, same_label}
 
 -- two TABLEs
@@ -83,15 +81,3 @@ abbrev pub same_listing : Listing → Listing → Bool
 same_listing t u =
     (t.horizon == u.horizon) && ((t.limit == u.limit)
     && (same_replications t.replications u.replications && same_lines t.lines u.lines))
-
--- two edits
-abbrev pub same_edit : Edit → Edit → Bool
-same_edit (edits.Insert m s) (edits.Insert n t) = (m == n) && bytes_eq s t
-same_edit (edits.Delete m) (edits.Delete n) = m == n
-same_edit (edits.Change m s) (edits.Change n t) = (m == n) && bytes_eq s t
-same_edit (edits.Capacity a m) (edits.Capacity b n) = bytes_eq a b && (m == n)
-same_edit (edits.Seed r s) (edits.Seed q t) = (r == q) && (s == t)
-same_edit (edits.Replicate r s) (edits.Replicate q t) = (r == q) && (s == t)
-same_edit (edits.Drop r) (edits.Drop q) = r == q
-same_edit (edits.Horizon m) (edits.Horizon n) = m == n
-same_edit e d = false

@@ -18,8 +18,8 @@ use Rattle.gw_meaning.specs.Numbers.{AreNumbered}
 use Rattle.gw_meaning.specs.Questions.{ask}
 use Rattle.gw_model.specs.Spliced.{with_splice}
 use Rattle.gw_model.specs.Well.{Well}
-use Rattle.gw_touch.specs.declared.edit.Edit.{Edit}
-use Rattle.gw_touch.specs.declared.edit.Edit.TheVariants as edits
+use Rattle.gw_meaning.specs.declared.edit.Edit.{Edit}
+use Rattle.gw_meaning.specs.declared.edit.Edit.TheVariants as edits
 use Rattle.gw_touch.specs.Touches.{Answers, Defines, FirstStorage}
 use Rattle.gw_touch.specs.Touching.{touch_of, is_touched}
 

@@ -16,8 +16,8 @@ use Rattle.gw_meaning.specs.declared.statement.Statement.{Statement}
 use Rattle.gw_meaning.specs.declared.table.Table.{Table}
 use Rattle.gw_meaning.specs.Listing.{Listing, is_block, is_command, is_generate, nth, seed_at}
 use Rattle.gw_meaning.specs.Statements.{verb_of_definition}
-use Rattle.gw_touch.specs.declared.edit.Edit.{Edit}
-use Rattle.gw_touch.specs.declared.edit.Edit.TheVariants as edits
+use Rattle.gw_meaning.specs.declared.edit.Edit.{Edit}
+use Rattle.gw_meaning.specs.declared.edit.Edit.TheVariants as edits
 use Rattle.gw_touch.specs.Touching.{touch_of, is_touched}
 
 -- the statements in front of a place

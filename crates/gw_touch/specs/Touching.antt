@@ -15,8 +15,8 @@ use Rattle.gw_meaning.specs.declared.statement.Statement.{Statement}
 use Rattle.gw_meaning.specs.declared.statement.Numbered.{Numbered}
 use Rattle.gw_meaning.specs.Listing.{Listing, is_block, is_command, is_generate, defines, definition_of, seed_at, nth}
 use Rattle.gw_meaning.specs.Reads.{is_use, is_command_use}
-use Rattle.gw_touch.specs.declared.edit.Edit.{Edit}
-use Rattle.gw_touch.specs.declared.edit.Edit.TheVariants as edits
+use Rattle.gw_meaning.specs.declared.edit.Edit.{Edit}
+use Rattle.gw_meaning.specs.declared.edit.Edit.TheVariants as edits
 use Rattle.gw_touch.specs.declared.touch.Probe.{Probe}
 use Rattle.gw_touch.specs.declared.touch.Probe.TheVariants.{One, CommandsFrom, Beyond, Amounts}
 use Rattle.gw_uses.specs.Asks.{is_ask}

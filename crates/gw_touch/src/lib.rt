@@ -6,7 +6,6 @@
 //! ([`touched`]): the run goes back to the last kept moment at or before it ([`go_back`]).
 #![tactic(auto)]
 
-mod edit;
 mod going_back;
 mod laws;
 mod lines;
@@ -15,7 +14,6 @@ mod touch;
 mod touched_step;
 mod versions;
 
-pub use edit::Edit;
 pub use going_back::go_back;
 pub use laws::{touches_exactly, touches_what_differs};
 pub use lines::storage_place;

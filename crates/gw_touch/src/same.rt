@@ -1,8 +1,7 @@
 ghost use Rattle.std.specs.Prelude.{◌≡◌, option_copied};
 ghost use Rattle.gw_touch.specs.Same.{same_term, same_operand, same_operands, same_verb, auxiliary_number, same_auxiliary, same_block, same_body, same_statement, same_label, same_atom, same_value, same_part, same_parts, same_type, same_points, same_function, same_first, kind_of, atom_of, parts_of, order_number, number_of, bytes_of};
-ghost use Rattle.gw_expr.specs.Term.{term_of};
 
-use gw_expr::{Atom, Discipline, Expr, Function, FunctionType, Node, Point, Token};
+use gw_expr::{Atom, Discipline, Expr, Function, FunctionType, Point, Token};
 use gw_meaning::{Auxiliary, Block, Body, Condition, Statement, Switching};
 use gw_names::{BlockVerb, Name};
 
@@ -97,7 +96,6 @@ fn same_operand(old: &Option<Expr>, new: &Option<Expr>) -> bool
 pub(crate) fn same_term(old: &Expr, new: &Expr) -> bool
     ensures { result ≡ same_term old.now new.now }
 {
-    let (old, new) = (old.node(), new.node());
     kind(old) == kind(new)
         && same_value(atom(old), atom(new))
         && same_parts(parts(old), parts(new))
@@ -106,45 +104,45 @@ pub(crate) fn same_term(old: &Expr, new: &Expr) -> bool
 }
 
 // What tells an operand from all others: its kind, its value, its parts, its number and its bytes.
-fn kind(node: &Node) -> u8
-    ensures { result ≡ kind_of (term_of node.now) }
+fn kind(expr: &Expr) -> u8
+    ensures { result ≡ kind_of expr.now }
 {
-    match node {
-        Node::Value(_) => 0,
-        Node::Computed(_) => 1,
-        Node::Named(_) => 2,
-        Node::Label(_) => 3,
-        Node::Fraction(_) => 4,
-        Node::Defined(_) => 5,
-        Node::Table(_) => 6,
-        Node::Order(_) => 7,
+    match expr {
+        Expr::Value(_) => 0,
+        Expr::Computed(_) => 1,
+        Expr::Named(_) => 2,
+        Expr::Label(_) => 3,
+        Expr::Fraction(_) => 4,
+        Expr::Defined(_) => 5,
+        Expr::Table(_) => 6,
+        Expr::Order(_) => 7,
     }
 }
 
-fn atom(node: &Node) -> Option<&Atom>
-    ensures { option_copied result ≡ atom_of (term_of node.now) }
+fn atom(expr: &Expr) -> Option<&Atom>
+    ensures { option_copied result ≡ atom_of expr.now }
 {
-    match node {
-        Node::Value(atom) => Some(atom),
+    match expr {
+        Expr::Value(atom) => Some(atom),
         _ => None,
     }
 }
 
-fn parts(node: &Node) -> &[Token]
-    ensures { result.now ≡ parts_of (term_of node.now) }
+fn parts(expr: &Expr) -> &[Token]
+    ensures { result.now ≡ parts_of expr.now }
 {
-    match node {
-        Node::Computed(tokens) => tokens,
+    match expr {
+        Expr::Computed(tokens) => tokens.as_slice(),
         _ => &[],
     }
 }
 
-fn number(node: &Node) -> u32
-    ensures { result ≡ number_of (term_of node.now) }
+fn number(expr: &Expr) -> u32
+    ensures { result ≡ number_of expr.now }
 {
-    match node {
-        Node::Fraction(part) => *part,
-        Node::Order(discipline) => order_number(*discipline),
+    match expr {
+        Expr::Fraction(part) => *part,
+        Expr::Order(discipline) => order_number(*discipline),
         _ => 0,
     }
 }
@@ -159,14 +157,14 @@ fn order_number(discipline: Discipline) -> u32
     }
 }
 
-fn bytes(node: &Node) -> &[u8]
-    ensures { result.now ≡ bytes_of (term_of node.now) }
+fn bytes(expr: &Expr) -> &[u8]
+    ensures { result.now ≡ bytes_of expr.now }
 {
-    match node {
-        Node::Named(name) => name.name().as_bytes(),
-        Node::Label(name) => name.as_bytes(),
-        Node::Defined(name) => name.name().as_bytes(),
-        Node::Table(name) => name.as_bytes(),
+    match expr {
+        Expr::Named(name) => name.name().as_bytes(),
+        Expr::Label(name) => name.as_bytes(),
+        Expr::Defined(name) => name.name().as_bytes(),
+        Expr::Table(name) => name.as_bytes(),
         _ => b"",
     }
 }

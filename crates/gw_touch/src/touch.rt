@@ -2,11 +2,10 @@ ghost use Rattle.std.specs.Prelude.{◌≡◌, IfOk, ◌++◌, [], ◌∷◌, So
 ghost use Rattle.gw_meaning.specs.Listing.{definition_of};
 ghost use Rattle.gw_touch.specs.Touching.{touching_of, capacity_probes, definition_slot, other_change, one_name, same_number, same_expression, same_curve, same_argument, rest_probes, seed_touching, seed_probes, everywhere, given, one_if, label_if, block_slots, block_before, command_from, line_probes, probes_of, splice_probes, block_change, same_seed};
 
-use crate::edit::Edit;
 use crate::lines::{count_commands, last_block, line_at, lines_before, storage_place};
 use crate::same::{same_first, same_function, same_label, same_statement, same_term};
 use gw_expr::{Expr, Function};
-use gw_meaning::{Asked, Body, Definition, Item, Numbered, Statement, StatementId};
+use gw_meaning::{Asked, Body, Definition, Edit, Item, Numbered, Statement, StatementId};
 use gw_model::Version;
 use gw_names::Name;
 use gw_nums::{Time, Val};

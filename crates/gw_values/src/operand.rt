@@ -12,7 +12,7 @@ use crate::context::Context;
 use crate::seen::Seen;
 use crate::traced::Traced;
 use gw_asking::{Notes, ask_number};
-use gw_expr::{Atom, Expr, Halt, Node, Stop, eval};
+use gw_expr::{Atom, Expr, Halt, Stop, eval};
 use gw_meaning::Watched;
 use gw_names::Key;
 use gw_nums::Val;
@@ -34,8 +34,8 @@ pub fn value(context: Context, notes: &mut Notes, operand: &Expr) -> Result<Val,
 fn constant(operand: &Expr) -> Option<Val>
     ensures { IfSome result (λ v. operand.now ≡ Value (atoms.Constant v)) }
 {
-    match operand.node() {
-        Node::Value(Atom::Constant(value)) => Some(*value),
+    match operand {
+        Expr::Value(Atom::Constant(value)) => Some(*value),
         _ => None,
     }
 }
@@ -92,8 +92,8 @@ pub fn key_of(context: Context, notes: &mut Notes, operand: Option<&Expr>) -> Re
     let Some(expr) = operand else {
         return Err(Halt::stop(Stop::Range));
     };
-    match expr.node() {
-        Node::Named(name) => {
+    match expr {
+        Expr::Named(name) => {
             let number = ask_number(context.run.version, notes, name.name())?;
             key_named(name.name(), number)
         }
@@ -174,8 +174,8 @@ pub fn entity_traced(
         (entity_traced context.entry.state.now context.entry.asker.now (Some operand.now)) (with_read result
         read.new.items) notes.old notes.new }
 {
-    match operand.node() {
-        Node::Named(name) => {
+    match operand {
+        Expr::Named(name) => {
             let number = ask_number(context.run.version, notes, name.name())?;
             key_named(name.name(), number)
         }

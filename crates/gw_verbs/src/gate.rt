@@ -9,7 +9,7 @@ ghost use Rattle.gw_asking.specs.Deciding.{Decides, Comes};
 use crate::entering::pass;
 use crate::leading::lead_to;
 use gw_asking::{Notes, ask_capacity};
-use gw_expr::{Expr, Halt, Node, Row, Stop};
+use gw_expr::{Expr, Halt, Row, Stop};
 use gw_meaning::{Auxiliary, Condition, EntityKind, Move, StatementId, Watched};
 use gw_names::{Key, StorageName};
 use gw_state::State;
@@ -35,8 +35,8 @@ pub fn decide_gate(
     let Some(expr) = entity else {
         return Err(Halt::stop(Stop::Range));
     };
-    match expr.node() {
-        Node::Defined(name) => gate_storage(context, notes, id, condition, name, label),
+    match expr {
+        Expr::Defined(name) => gate_storage(context, notes, id, condition, name, label),
         _ => gate_other(context, notes, id, condition, expr, label),
     }
 }

@@ -5,7 +5,7 @@ ghost use Rattle.gw_asking.specs.Deciding.{Decides, Comes};
 
 use crate::entering::{enter_with, pass};
 use gw_asking::{Notes, Run, ask_label};
-use gw_expr::{Expr, Halt, Node, Stop};
+use gw_expr::{Expr, Halt, Stop};
 use gw_meaning::{Move, StatementId, TransactionChange};
 
 // To the block with a label, or to the next block where there is none.
@@ -22,8 +22,8 @@ pub(crate) fn lead_to(
     let Some(expr) = label else {
         return Ok(pass(id));
     };
-    match expr.node() {
-        Node::Label(name) => {
+    match expr {
+        Expr::Label(name) => {
             let to = ask_label(run.version, notes, name)?;
             go_to(id, to)
         }

@@ -9,7 +9,7 @@ use crate::grants::{all_granted, grants_of};
 use crate::queue::is_too_many;
 use gw_asking::Notes;
 use gw_entities::Storage;
-use gw_expr::{Expr, Halt, Node, Row, Stop};
+use gw_expr::{Expr, Halt, Row, Stop};
 use gw_meaning::{Move, StatementId, StorageUpdate, Update};
 use gw_names::{Key, StorageName};
 use gw_values::{Context, units_of};
@@ -31,8 +31,8 @@ pub fn decide_leave(
     let Some(expr) = storage else {
         return Err(Halt::stop(Stop::Range));
     };
-    match expr.node() {
-        Node::Defined(name) => leave_defined(context, notes, id, name, units),
+    match expr {
+        Expr::Defined(name) => leave_defined(context, notes, id, name, units),
         _ => Err(Halt::stop(Stop::Range)),
     }
 }

@@ -8,7 +8,7 @@ ghost use Rattle.gw_asking.specs.Deciding.{Decides};
 
 use crate::entering::enter_for;
 use gw_asking::Notes;
-use gw_expr::{Discipline, Expr, Halt, Node, Stop};
+use gw_expr::{Discipline, Expr, Halt, Stop};
 use gw_meaning::{Fate, Move, StatementId};
 use gw_names::Key;
 use gw_values::{Context, key_of, units_of};
@@ -29,8 +29,8 @@ pub fn decide_link(
     let Some(expr) = order else {
         return Err(Halt::stop(Stop::NoNextBlock));
     };
-    match expr.node() {
-        Node::Order(discipline) => {
+    match expr {
+        Expr::Order(discipline) => {
             let key = key_of(context, notes, entity)?;
             Ok(link_to(id, key, *discipline))
         }

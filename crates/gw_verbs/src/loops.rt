@@ -7,7 +7,7 @@ ghost use Rattle.gw_asking.specs.Deciding.{Decides, Comes};
 use crate::assign::arithmetic;
 use crate::entering::enter_with;
 use gw_asking::{Notes, Run, ask_label};
-use gw_expr::{Expr, Halt, Node, Operator, Stop};
+use gw_expr::{Expr, Halt, Operator, Stop};
 use gw_meaning::{Move, StatementId, TransactionChange};
 use gw_names::Key;
 use gw_nums::Val;
@@ -88,8 +88,8 @@ fn loop_to(
     let Some(expr) = label else {
         return Err(Halt::stop(Stop::NoNextBlock));
     };
-    match expr.node() {
-        Node::Label(name) => {
+    match expr {
+        Expr::Label(name) => {
             let to = ask_label(run.version, notes, name)?;
             loop_back(id, key, left, to)
         }

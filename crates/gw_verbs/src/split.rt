@@ -6,7 +6,7 @@ ghost use Rattle.gw_asking.specs.Deciding.{Decides, Comes};
 
 use crate::entering::enter_bringing;
 use gw_asking::{Notes, Run, ask_label};
-use gw_expr::{Expr, Halt, Node, Stop};
+use gw_expr::{Expr, Halt, Stop};
 use gw_meaning::{Change, Destination, Move, StatementId};
 use gw_nums::Val;
 use gw_state::State;
@@ -77,8 +77,8 @@ fn split_count(
     let Some(expr) = label else {
         return Ok(split_into(id, count, Destination::none()));
     };
-    match expr.node() {
-        Node::Label(name) => {
+    match expr {
+        Expr::Label(name) => {
             let to = ask_label(run.version, notes, name)?;
             split_to(id, count, to)
         }

@@ -6,7 +6,7 @@ ghost use Rattle.gw_asking.specs.Deciding.{Decides};
 
 use crate::entering::enter_doing;
 use gw_asking::{Notes, ask_argument};
-use gw_expr::{Expr, Halt, Node, Stop};
+use gw_expr::{Expr, Halt, Stop};
 use gw_meaning::{Move, StatementId, Update};
 use gw_names::{Key, Name};
 use gw_values::{Context, value_there};
@@ -26,8 +26,8 @@ pub fn decide_tabulate(
     let Some(expr) = table else {
         return Err(Halt::stop(Stop::Range));
     };
-    match expr.node() {
-        Node::Table(name) => {
+    match expr {
+        Expr::Table(name) => {
             let argument = ask_argument(context.run.version, notes, name)?;
             tabulate_with(context, notes, id, name, argument)
         }

@@ -6,7 +6,7 @@ ghost use Rattle.gw_asking.specs.Deciding.{Decides};
 
 use crate::leading::lead_to;
 use gw_asking::{Notes, Run, draw, millionths};
-use gw_expr::{Expr, Halt, Node};
+use gw_expr::{Expr, Halt};
 use gw_meaning::{Move, StatementId};
 
 /// TRANSFER: the transaction goes to the block with a label, or on to the next one. A fraction draws from stream 1, and
@@ -27,8 +27,8 @@ pub fn decide_transfer(
     let Some(expr) = fraction else {
         return lead_to(run, notes, id, near);
     };
-    match expr.node() {
-        Node::Fraction(part) => by_fraction(run, notes, id, *part, near, far),
+    match expr {
+        Expr::Fraction(part) => by_fraction(run, notes, id, *part, near, far),
         _ => lead_to(run, notes, id, near),
     }
 }

@@ -6,7 +6,7 @@ ghost use Rattle.gw_asking.specs.Deciding.{Decides, Comes};
 use crate::entering::enter_bringing;
 use crate::link::leaving;
 use gw_asking::{Notes, Run, ask_label};
-use gw_expr::{Expr, Halt, Node, Stop};
+use gw_expr::{Expr, Halt, Stop};
 use gw_meaning::{Change, Destination, Move, StatementId};
 use gw_names::Key;
 use gw_values::{Context, key_of};
@@ -51,8 +51,8 @@ fn unlink_count(
     let Some(expr) = label else {
         return Err(Halt::stop(Stop::NoNextBlock));
     };
-    match expr.node() {
-        Node::Label(name) => {
+    match expr {
+        Expr::Label(name) => {
             let to = ask_label(run.version, notes, name)?;
             unlink_to(id, key, count, to)
         }

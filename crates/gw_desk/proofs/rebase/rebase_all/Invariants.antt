@@ -1,6 +1,6 @@
 use Rattle.std.proofs.Common.{◌≡◌, ◌≤◌, ◌<◌, ℕ, length, get_or}
 use Rattle.gw_meaning.specs.Listing.{Listing}
-use Rattle.gw_touch.specs.declared.edit.Edit.{Edit}
+use Rattle.gw_meaning.specs.declared.edit.Edit.{Edit}
 use Rattle.gw_touch.specs.Touching.{touching_of}
 use Rattle.gw_desk.specs.declared.recording.Recording.{Recording}
 use Rattle.gw_desk.specs.Rebasing.{IsRebasedRecording}

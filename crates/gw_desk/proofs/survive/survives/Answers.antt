@@ -1,5 +1,5 @@
 use Rattle.std.proofs.Common.{◌<◌, length, subst, arith}
-use Rattle.gw_touch.specs.declared.edit.Edit.{Edit}
+use Rattle.gw_meaning.specs.declared.edit.Edit.{Edit}
 use Rattle.gw_desk.specs.Surviving.{Passes}
 use Rattle.gw_desk.proofs.FateLaws.{lives_none, lives_at, dead_at}
 use Rattle.gw_desk.proofs.survive.survives.Goals as goal

@@ -1,5 +1,5 @@
 use Rattle.std.proofs.Common.{◌≡◌, ◌<◌, ◌++◌, ◌∷◌, [], List, length, option_to_list, ap, sym, subst, arith}
-use Rattle.gw_touch.specs.declared.edit.Edit.{Edit}
+use Rattle.gw_meaning.specs.declared.edit.Edit.{Edit}
 use Rattle.gw_edit.specs.Leading.{accepted}
 use Rattle.gw_desk.specs.Book.{Book}
 use Rattle.gw_bench.specs.Growing.{Kept, IsHeld, Settles}

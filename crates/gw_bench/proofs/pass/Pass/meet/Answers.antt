@@ -1,6 +1,6 @@
 use Rattle.std.proofs.Common.{sym, ◌∙◌, arith, below_more}
 use Rattle.once_cell.specs.declared.race.note.Note.{Note}
-use Rattle.gw_touch.specs.declared.edit.Edit.{Edit}
+use Rattle.gw_meaning.specs.declared.edit.Edit.{Edit}
 use Rattle.gw_bench.proofs.Meets.{stands-at, agree-known, meets}
 use Rattle.gw_bench.proofs.pass.Pass.meet.Goals as goal
 

@@ -1,6 +1,6 @@
 use Rattle.std.proofs.Common.{◌≡◌, ◌<◌, List, length, sym, ◌∙◌, arith}
 use Rattle.once_cell.specs.declared.race.note.Note.{Note}
-use Rattle.gw_touch.specs.declared.edit.Edit.{Edit}
+use Rattle.gw_meaning.specs.declared.edit.Edit.{Edit}
 use Rattle.gw_bench.specs.Fronts.{front_of}
 use Rattle.gw_bench.proofs.Fronts.{stands-length}
 use Rattle.gw_bench.proofs.Meets.{stands-at, stands-get}

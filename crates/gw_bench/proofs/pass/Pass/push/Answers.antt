@@ -1,7 +1,7 @@
 use Rattle.std.proofs.Common.{◌≡◌, ◌<◌, List, length, sym, subst, arith}
 use Rattle.std.specs.Vec.{vec_capacity}
 use Rattle.once_cell.specs.declared.race.note.Note.{Note}
-use Rattle.gw_touch.specs.declared.edit.Edit.{Edit}
+use Rattle.gw_meaning.specs.declared.edit.Edit.{Edit}
 use Rattle.gw_bench.specs.Fronts.{front_of, Follows}
 use Rattle.gw_bench.proofs.Fronts.{grows, front-grows, stands-length}
 use Rattle.gw_bench.proofs.pass.Pass.push.Goals as goal

@@ -1,5 +1,4 @@
 ghost use Rattle.std.specs.Prelude.{◌≡◌, ◌↔◌, IfOk, IsTrue};
-ghost use Rattle.gw_touch.specs.SameVersions.{same_edit};
 
 use gw_expr::Row;
 use gw_names::Name;
@@ -7,7 +6,7 @@ use std::alloc::{AllocError, Global};
 
 /// An edit of a version. Places count the statements from 1. An edit after which the version would have a
 /// fault is E3.
-#[derive(Drop)]
+#[derive(Drop, PartialEq, Eq)]
 pub enum Edit {
     /// The statement that `text` spells is inserted at `place`, 1 to the number of statements and one; else it is
     /// E1. A text that spells none is E2.
@@ -33,11 +32,10 @@ pub enum Edit {
 
 impl Edit {
     /// Whether the two are one edit: of one kind, with the same place, text, name and numbers.
-    #[tactic(auto, using(crate::proofs::SameVersionLaws::edits_same, crate::proofs::SameVersionLaws::edit_itself))]
     pub fn is(&self, other: &Edit) -> bool
         ensures { IsTrue result ↔ (self.now ≡ other.now) }
     {
-        same_edit(self, other)
+        self == other
     }
 
     /// An equal edit.
@@ -78,41 +76,4 @@ fn copy_text(alloc: Global, text: &Row<u8>) -> Result<Row<u8>, AllocError>
     ensures { IfOk result (λ t. t ≡ text.now) }
 {
     Ok(Row::from_vec(Vec::from_slice(alloc, text.as_slice())?))
-}
-
-fn same_edit(one: &Edit, other: &Edit) -> bool
-    ensures { result ≡ same_edit one.now other.now }
-{
-    match (one, other) {
-        (Edit::Insert { place: a, text: s }, Edit::Insert { place: b, text: t }) => a == b
-            && s.as_slice() == t.as_slice(),
-        (Edit::Delete { place: a }, Edit::Delete { place: b }) => a == b,
-        (Edit::Change { place: a, text: s }, Edit::Change { place: b, text: t }) => a == b
-            && s.as_slice() == t.as_slice(),
-        (Edit::Capacity { name: a, amount: m }, Edit::Capacity { name: b, amount: n }) => a == b
-            && m == n,
-        (
-            Edit::Seed {
-                replication: a,
-                seed: s,
-            },
-            Edit::Seed {
-                replication: b,
-                seed: t,
-            },
-        ) => a == b && s == t,
-        (
-            Edit::Replicate {
-                replication: a,
-                seed: s,
-            },
-            Edit::Replicate {
-                replication: b,
-                seed: t,
-            },
-        ) => a == b && s == t,
-        (Edit::Drop { replication: a }, Edit::Drop { replication: b }) => a == b,
-        (Edit::Horizon { time: a }, Edit::Horizon { time: b }) => a == b,
-        _ => false,
-    }
 }
