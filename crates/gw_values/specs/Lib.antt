@@ -4,5 +4,6 @@ pub use Rattle.gw_meaning.specs.Evaluation
 pub use Rattle.gw_meaning.specs.Step
 pub use Rattle.gw_asking.specs.Noted
 pub use Rattle.gw_asking.specs.Deciding
+pub mod Contexts
 pub mod Seeing
 pub mod Tracing

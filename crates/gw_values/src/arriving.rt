@@ -2,7 +2,8 @@
 ghost use Rattle.std.specs.Prelude.{◌≡◌, [], OnOk, option_copied, true, nat_le};
 ghost use Rattle.gw_meaning.specs.Machine.{live, count_at};
 ghost use Rattle.gw_meaning.specs.Step.{arrival_prog, arrival_in_time, arrival_at, first_of, first_arrival, prime_prog, arrivals_prog, with_arrival};
-ghost use Rattle.gw_asking.specs.Deciding.{Decides, Comes};
+ghost use Rattle.gw_asking.specs.Deciding.{Comes};
+ghost use Rattle.gw_values.specs.Contexts.{DecidesIn};
 
 use crate::context::Context;
 use crate::operand::{value, value_or_zero};
@@ -39,10 +40,9 @@ pub fn arrival(
     limit: Option<&Expr>,
     priority: Option<&Expr>,
 ) -> Result<Option<Arrival>, Halt>
-    ensures { Decides context.entry.run.version.now context.entry.run.seed
-        (arrival_prog context.entry.state.now context.entry.asker.now id
-        (count_at context.entry.state.now.counts id).made (option_copied mean.entry) (option_copied range.entry)
-        (option_copied limit.entry) (option_copied priority.entry)) result notes.old notes.new }
+    ensures { DecidesIn context.entry (λ s q. arrival_prog s q id (count_at s.counts id).made (option_copied mean.entry)
+        (option_copied range.entry) (option_copied limit.entry) (option_copied priority.entry))
+        result notes.old notes.new }
 {
     if let Some(limit) = limit {
         let limit = value(context, notes, limit)?;
@@ -65,8 +65,7 @@ fn arrival_in_time(
     range: Option<&Expr>,
     priority: Option<&Expr>,
 ) -> Result<Option<Arrival>, Halt>
-    ensures { Decides context.entry.run.version.now context.entry.run.seed
-        (arrival_in_time context.entry.state.now context.entry.asker.now id (option_copied mean.entry)
+    ensures { DecidesIn context.entry (λ s q. arrival_in_time s q id (option_copied mean.entry)
         (option_copied range.entry) (option_copied priority.entry)) result notes.old notes.new }
 {
     let time = time(context, notes, mean, range)?;
@@ -103,8 +102,7 @@ pub fn arrivals(
     notes: &mut Notes,
     ids: &[StatementId],
 ) -> Result<Row<Arrival>, Halt>
-    ensures { Decides context.entry.run.version.now context.entry.run.seed
-        (arrivals_prog context.entry.state.now context.entry.asker.now ids.now []) result notes.old notes.new }
+    ensures { DecidesIn context.entry (λ s q. arrivals_prog s q ids.now []) result notes.old notes.new }
 {
     let mut arrivals = Vec::new(context.run.alloc);
     for id in ids {
@@ -115,8 +113,7 @@ pub fn arrivals(
 }
 
 fn prime(context: Context, notes: &mut Notes, id: StatementId) -> Result<Option<Arrival>, Halt>
-    ensures { Decides context.entry.run.version.now context.entry.run.seed
-        (prime_prog context.entry.state.now context.entry.asker.now id) result notes.old notes.new }
+    ensures { DecidesIn context.entry (λ s q. prime_prog s q id) result notes.old notes.new }
 {
     let block = ask_block(context.run.version, notes, id)?;
     first_arrival(context, notes, id, block)
@@ -128,8 +125,7 @@ fn first_arrival(
     id: StatementId,
     block: Option<&Block>,
 ) -> Result<Option<Arrival>, Halt>
-    ensures { Decides context.entry.run.version.now context.entry.run.seed
-        (first_arrival context.entry.state.now context.entry.asker.now id (option_copied block.entry))
+    ensures { DecidesIn context.entry (λ s q. first_arrival s q id (option_copied block.entry))
         result notes.old notes.new }
 {
     match block {
@@ -145,8 +141,7 @@ fn first_of(
     id: StatementId,
     block: &Block,
 ) -> Result<Option<Arrival>, Halt>
-    ensures { Decides context.entry.run.version.now context.entry.run.seed
-        (first_of context.entry.state.now context.entry.asker.now id block.now true) result notes.old notes.new }
+    ensures { DecidesIn context.entry (λ s q. first_of s q id block.now true) result notes.old notes.new }
 {
     let (mean, range) = match block.operand(C) {
         Some(offset) => (Some(offset), None),

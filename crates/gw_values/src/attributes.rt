@@ -3,6 +3,7 @@ ghost use Rattle.std.specs.Prelude.{◌≡◌, pos};
 ghost use Rattle.gw_expr.specs.declared.attribute.Subject.TheVariants as subjects;
 ghost use Rattle.gw_meaning.specs.Evaluation.{amount, own_value, owned, subject_prog, named, numbered, parameter_value, value_held, entity_value, defined_prog, storage_value, table_value, block_count, counted, block_value, drawn_prog, random_prog, random_part, millionths, thousandth, attribute_prog, ◌~>◌, left_prog, units_left};
 ghost use Rattle.gw_asking.specs.Deciding.{Decides, Comes};
+ghost use Rattle.gw_values.specs.Contexts.{DecidesIn};
 
 use crate::context::Context;
 use gw_asking::{Notes, Run, ask_capacity, ask_label, ask_number, draw, millionths};
@@ -20,8 +21,7 @@ pub fn attribute(
     class: Class,
     of: &Subject,
 ) -> Result<Val, Halt>
-    ensures { Decides context.entry.run.version.now context.entry.run.seed
-        (attribute_prog context.entry.state.now context.entry.asker.now class of.now) result notes.old notes.new }
+    ensures { DecidesIn context.entry (λ s q. attribute_prog s q class of.now) result notes.old notes.new }
 {
     match class {
         Class::C1 | Class::Ac1 | Class::Tg1 | Class::M1 | Class::Xn1 | Class::Pr => {
@@ -65,8 +65,7 @@ fn own_value(state: &State, asker: &Asker, class: Class) -> Result<Val, Halt>
 // Of the transaction that asks: its parameter.
 #[inline(always)]
 fn of_parameter(context: Context, notes: &mut Notes, of: &Subject) -> Result<Val, Halt>
-    ensures { Decides context.entry.run.version.now context.entry.run.seed
-        (subject_prog of.now ~> (λ key. parameter_value context.entry.state.now context.entry.asker.now key))
+    ensures { DecidesIn context.entry (λ s q. subject_prog of.now ~> (λ key. parameter_value s q key))
         result notes.old notes.new }
 {
     let key = subject(context.run, notes, of)?;
@@ -86,8 +85,8 @@ fn parameter(state: &State, asker: &Asker, key: &Key) -> Result<Val, Halt>
 
 // Of a facility, a queue, a savevalue, a switch or a user chain.
 fn of_entity(context: Context, notes: &mut Notes, class: Class, of: &Subject) -> Result<Val, Halt>
-    ensures { Decides context.entry.run.version.now context.entry.run.seed
-        (subject_prog of.now ~> (λ key. entity_value context.entry.state.now class key)) result notes.old notes.new }
+    ensures { DecidesIn context.entry (λ s q. subject_prog of.now ~> (λ key. entity_value s class key))
+        result notes.old notes.new }
 {
     let key = subject(context.run, notes, of)?;
     entity_value(context.state, class, &key)
@@ -148,8 +147,7 @@ fn of_table(state: &State, of: &Subject) -> Result<Val, Halt>
 
 // The units of a storage that are left.
 fn left(context: Context, notes: &mut Notes, of: &Subject) -> Result<Val, Halt>
-    ensures { Decides context.entry.run.version.now context.entry.run.seed
-        (left_prog context.entry.state.now of.now) result notes.old notes.new }
+    ensures { DecidesIn context.entry (λ s q. left_prog s of.now) result notes.old notes.new }
 {
     match of {
         Subject::Name(name) => {
@@ -170,8 +168,8 @@ fn units_left(state: &State, capacity: u64, key: &Key) -> Result<Val, Halt>
 
 // Of a block.
 fn of_block(context: Context, notes: &mut Notes, class: Class, of: &Subject) -> Result<Val, Halt>
-    ensures { Decides context.entry.run.version.now context.entry.run.seed
-        (block_count of.now (λ id. block_value context.entry.state.now class id)) result notes.old notes.new }
+    ensures { DecidesIn context.entry (λ s q. block_count of.now (λ id. block_value s class id))
+        result notes.old notes.new }
 {
     match of {
         Subject::Name(name) => {

@@ -4,8 +4,8 @@ ghost use Rattle.gw_expr.specs.declared.atom.Atom.TheVariants as atoms;
 ghost use Rattle.gw_expr.specs.Term.{Value};
 ghost use Rattle.gw_expr.specs.Evaluation.{value_of};
 ghost use Rattle.gw_meaning.specs.Evaluation.{value_prog, value_or_zero, value_there, numbered, entity_prog, units_prog, ◌~>◌, gives, traced, value_traced, entity_traced};
-ghost use Rattle.gw_asking.specs.Deciding.{Decides};
 ghost use Rattle.gw_values.specs.Tracing.{with_read};
+ghost use Rattle.gw_values.specs.Contexts.{DecidesIn};
 
 use crate::attributes::{key_named, key_numbered};
 use crate::context::Context;
@@ -20,8 +20,7 @@ use gw_nums::Val;
 // The value of an operand: that of a constant, as most are, at once.
 #[inline(always)]
 pub fn value(context: Context, notes: &mut Notes, operand: &Expr) -> Result<Val, Halt>
-    ensures { Decides context.entry.run.version.now context.entry.run.seed
-        (value_prog context.entry.state.now context.entry.asker.now operand.now) result notes.old notes.new }
+    ensures { DecidesIn context.entry (λ s q. value_prog s q operand.now) result notes.old notes.new }
 {
     match constant(operand) {
         Some(value) => Ok(value),
@@ -43,8 +42,7 @@ fn constant(operand: &Expr) -> Option<Val>
 // The value of an operand that is evaluated.
 #[inline(never)]
 fn evaluation(context: Context, notes: &mut Notes, operand: &Expr) -> Result<Val, Halt>
-    ensures { Decides context.entry.run.version.now context.entry.run.seed
-        (value_prog context.entry.state.now context.entry.asker.now operand.now) result notes.old notes.new }
+    ensures { DecidesIn context.entry (λ s q. value_prog s q operand.now) result notes.old notes.new }
 {
     let mut seen = Seen { context, notes };
     eval(operand, context.run.version, &mut seen)
@@ -54,8 +52,7 @@ fn evaluation(context: Context, notes: &mut Notes, operand: &Expr) -> Result<Val
 /// which no version that was read lacks.
 #[inline(always)]
 pub fn value_there(context: Context, notes: &mut Notes, operand: Option<&Expr>) -> Result<Val, Halt>
-    ensures { Decides context.entry.run.version.now context.entry.run.seed
-        (value_there context.entry.state.now context.entry.asker.now (option_copied operand.entry))
+    ensures { DecidesIn context.entry (λ s q. value_there s q (option_copied operand.entry))
         result notes.old notes.new }
 {
     match operand {
@@ -71,8 +68,7 @@ pub fn value_or_zero(
     notes: &mut Notes,
     operand: Option<&Expr>,
 ) -> Result<Val, Halt>
-    ensures { Decides context.entry.run.version.now context.entry.run.seed
-        (value_or_zero context.entry.state.now context.entry.asker.now (option_copied operand.entry))
+    ensures { DecidesIn context.entry (λ s q. value_or_zero s q (option_copied operand.entry))
         result notes.old notes.new }
 {
     match operand {
@@ -85,8 +81,7 @@ pub fn value_or_zero(
 /// comes to. X7 where that number is below 1.
 #[inline(always)]
 pub fn key_of(context: Context, notes: &mut Notes, operand: Option<&Expr>) -> Result<Key, Halt>
-    ensures { Decides context.entry.run.version.now context.entry.run.seed
-        (entity_prog context.entry.state.now context.entry.asker.now (option_copied operand.entry))
+    ensures { DecidesIn context.entry (λ s q. entity_prog s q (option_copied operand.entry))
         result notes.old notes.new }
 {
     let Some(expr) = operand else {
@@ -104,9 +99,7 @@ pub fn key_of(context: Context, notes: &mut Notes, operand: Option<&Expr>) -> Re
 // The entity whose number is the value of an operand.
 #[inline(always)]
 fn computed_entity(context: Context, notes: &mut Notes, operand: &Expr) -> Result<Key, Halt>
-    ensures { Decides context.entry.run.version.now context.entry.run.seed
-        (value_prog context.entry.state.now context.entry.asker.now operand.now ~> numbered)
-        result notes.old notes.new }
+    ensures { DecidesIn context.entry (λ s q. value_prog s q operand.now ~> numbered) result notes.old notes.new }
 {
     let number = value(context, notes, operand)?;
     key_numbered(number)
@@ -115,9 +108,7 @@ fn computed_entity(context: Context, notes: &mut Notes, operand: &Expr) -> Resul
 /// How many units an operand says, and 1 where it is absent. X11 where it says less than 1.
 #[inline(always)]
 pub fn units_of(context: Context, notes: &mut Notes, operand: Option<&Expr>) -> Result<u32, Halt>
-    ensures { Decides context.entry.run.version.now context.entry.run.seed
-        (units_prog context.entry.state.now context.entry.asker.now (option_copied operand.entry))
-        result notes.old notes.new }
+    ensures { DecidesIn context.entry (λ s q. units_prog s q (option_copied operand.entry)) result notes.old notes.new }
 {
     let Some(expr) = operand else {
         return Ok(1);
@@ -137,8 +128,7 @@ pub fn value_traced(
     read: &mut Vec<Watched>,
     operand: Option<&Expr>,
 ) -> Result<Val, Halt>
-    ensures { Decides context.entry.run.version.now context.entry.run.seed
-        (value_traced context.entry.state.now context.entry.asker.now read.old.items (option_copied operand.entry))
+    ensures { DecidesIn context.entry (λ s q. value_traced s q read.old.items (option_copied operand.entry))
         (with_read result read.new.items) notes.old notes.new }
 {
     match operand {
@@ -153,9 +143,8 @@ fn evaluation_traced(
     read: &mut Vec<Watched>,
     operand: &Expr,
 ) -> Result<Val, Halt>
-    ensures { Decides context.entry.run.version.now context.entry.run.seed
-        (traced context.entry.state.now context.entry.asker.now read.old.items (value_of operand.now)) (with_read
-        result read.new.items) notes.old notes.new }
+    ensures { DecidesIn context.entry (λ s q. traced s q read.old.items (value_of operand.now))
+        (with_read result read.new.items) notes.old notes.new }
 {
     let seen = Seen { context, notes };
     let mut traced = Traced { seen, read };
@@ -170,9 +159,8 @@ pub fn entity_traced(
     operand: &Expr,
 ) -> Result<Key, Halt>
     requires { read.old.items ≡ [] }
-    ensures { Decides context.entry.run.version.now context.entry.run.seed
-        (entity_traced context.entry.state.now context.entry.asker.now (Some operand.now)) (with_read result
-        read.new.items) notes.old notes.new }
+    ensures { DecidesIn context.entry (λ s q. entity_traced s q (Some operand.now))
+        (with_read result read.new.items) notes.old notes.new }
 {
     match operand {
         Expr::Named(name) => {
@@ -190,9 +178,9 @@ fn computed_traced(
     read: &mut Vec<Watched>,
     operand: &Expr,
 ) -> Result<Key, Halt>
-    ensures { Decides context.entry.run.version.now context.entry.run.seed
-        (traced context.entry.state.now context.entry.asker.now read.old.items (value_of operand.now) ~>
-        (λ r. numbered r.0 ~> (λ key. gives (key, r.1)))) (with_read result read.new.items) notes.old notes.new }
+    ensures { DecidesIn context.entry (λ s q. traced s q read.old.items (value_of operand.now) ~>
+        (λ r. numbered r.0 ~> (λ key. gives (key, r.1))))
+        (with_read result read.new.items) notes.old notes.new }
 {
     let number = evaluation_traced(context, notes, read, operand)?;
     key_numbered(number)

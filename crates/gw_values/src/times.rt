@@ -1,7 +1,7 @@
 // The times of GENERATE and ADVANCE: a mean, and what stands beside it.
 ghost use Rattle.std.specs.Prelude.{Some, None, option_copied};
 ghost use Rattle.gw_meaning.specs.Evaluation.{time_by, time_prog};
-ghost use Rattle.gw_asking.specs.Deciding.{Decides};
+ghost use Rattle.gw_values.specs.Contexts.{DecidesIn};
 
 use crate::context::Context;
 use crate::operand::value_or_zero;
@@ -19,9 +19,8 @@ pub fn time(
     mean: Option<&Expr>,
     range: Option<&Expr>,
 ) -> Result<Val, Halt>
-    ensures { Decides context.entry.run.version.now context.entry.run.seed
-        (time_prog context.entry.state.now context.entry.asker.now (option_copied mean.entry)
-        (option_copied range.entry)) result notes.old notes.new }
+    ensures { DecidesIn context.entry (λ s q. time_prog s q (option_copied mean.entry) (option_copied range.entry))
+        result notes.old notes.new }
 {
     match modifier_of(range) {
         Some(of) => time_by_function(context, notes, mean, range, of),
@@ -38,8 +37,7 @@ fn time_by_function(
     range: Option<&Expr>,
     of: &Subject,
 ) -> Result<Val, Halt>
-    ensures { Decides context.entry.run.version.now context.entry.run.seed
-        (time_by context.entry.state.now context.entry.asker.now (option_copied mean.entry) (option_copied range.entry)
+    ensures { DecidesIn context.entry (λ s q. time_by s q (option_copied mean.entry) (option_copied range.entry)
         (Some of.now)) result notes.old notes.new }
 {
     let mean = value_or_zero(context, notes, mean)?;
@@ -56,9 +54,8 @@ fn time_within(
     mean: Option<&Expr>,
     range: Option<&Expr>,
 ) -> Result<Val, Halt>
-    ensures { Decides context.entry.run.version.now context.entry.run.seed
-        (time_by context.entry.state.now context.entry.asker.now (option_copied mean.entry) (option_copied range.entry)
-        None) result notes.old notes.new }
+    ensures { DecidesIn context.entry (λ s q. time_by s q (option_copied mean.entry) (option_copied range.entry) None)
+        result notes.old notes.new }
 {
     let mean = value_or_zero(context, notes, mean)?;
     let range = value_or_zero(context, notes, range)?;

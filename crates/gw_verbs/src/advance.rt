@@ -1,7 +1,7 @@
 // ADVANCE: a transaction is held for a time.
 ghost use Rattle.std.specs.Prelude.{◌≡◌, ◌≤◌, option_copied};
 ghost use Rattle.gw_meaning.specs.Step.{delay_of, advance_prog};
-ghost use Rattle.gw_asking.specs.Deciding.{Decides};
+ghost use Rattle.gw_values.specs.Contexts.{DecidesIn};
 
 use crate::entering::enter_for;
 use gw_asking::Notes;
@@ -19,8 +19,7 @@ pub fn decide_advance(
     mean: Option<&Expr>,
     range: Option<&Expr>,
 ) -> Result<Move, Halt>
-    ensures { Decides context.entry.run.version.now context.entry.run.seed
-        (advance_prog context.entry.state.now context.entry.asker.now id (option_copied mean.entry)
+    ensures { DecidesIn context.entry (λ s q. advance_prog s q id (option_copied mean.entry)
         (option_copied range.entry)) result notes.old notes.new }
 {
     let time = time(context, notes, mean, range)?;

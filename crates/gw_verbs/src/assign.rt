@@ -2,7 +2,8 @@
 ghost use Rattle.std.specs.Prelude.{◌≡◌, option_copied};
 ghost use Rattle.gw_meaning.specs.Evaluation.{arithmetic};
 ghost use Rattle.gw_meaning.specs.Step.{by_sign, or_zero, assign_with, assign_prog};
-ghost use Rattle.gw_asking.specs.Deciding.{Decides, Comes};
+ghost use Rattle.gw_asking.specs.Deciding.{Comes};
+ghost use Rattle.gw_values.specs.Contexts.{DecidesIn};
 
 use crate::entering::enter_with;
 use gw_asking::Notes;
@@ -23,8 +24,7 @@ pub fn decide_assign(
     parameter: Option<&Expr>,
     value: Option<&Expr>,
 ) -> Result<Move, Halt>
-    ensures { Decides context.entry.run.version.now context.entry.run.seed
-        (assign_prog context.entry.state.now context.entry.asker.now id sign (option_copied parameter.entry)
+    ensures { DecidesIn context.entry (λ s q. assign_prog s q id sign (option_copied parameter.entry)
         (option_copied value.entry)) result notes.old notes.new }
 {
     let key = key_of(context, notes, parameter)?;

@@ -1,7 +1,8 @@
 // DEPART: units leave a queue.
 ghost use Rattle.std.specs.Prelude.{option_copied};
 ghost use Rattle.gw_meaning.specs.Step.{is_too_many, depart_units, depart_prog};
-ghost use Rattle.gw_asking.specs.Deciding.{Decides, Comes};
+ghost use Rattle.gw_asking.specs.Deciding.{Comes};
+ghost use Rattle.gw_values.specs.Contexts.{DecidesIn};
 
 use crate::entering::enter_doing;
 use crate::queue::is_too_many;
@@ -23,8 +24,7 @@ pub fn decide_depart(
     entity: Option<&Expr>,
     units: Option<&Expr>,
 ) -> Result<Move, Halt>
-    ensures { Decides context.entry.run.version.now context.entry.run.seed
-        (depart_prog context.entry.state.now context.entry.asker.now x.now id (option_copied entity.entry)
+    ensures { DecidesIn context.entry (λ s q. depart_prog s q x.now id (option_copied entity.entry)
         (option_copied units.entry)) result notes.old notes.new }
 {
     let key = key_of(context, notes, entity)?;

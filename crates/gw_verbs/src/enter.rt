@@ -3,6 +3,7 @@ ghost use Rattle.std.specs.Prelude.{Some, option_copied};
 ghost use Rattle.gw_expr.specs.Term.{Defined};
 ghost use Rattle.gw_meaning.specs.Step.{enter_or_wait, enter_storage, enter_prog};
 ghost use Rattle.gw_asking.specs.Deciding.{Decides, Comes};
+ghost use Rattle.gw_values.specs.Contexts.{DecidesIn};
 
 use crate::entering::enter_doing;
 use crate::grants::beside;
@@ -24,8 +25,7 @@ pub fn decide_enter(
     storage: Option<&Expr>,
     units: Option<&Expr>,
 ) -> Result<Move, Halt>
-    ensures { Decides context.entry.run.version.now context.entry.run.seed
-        (enter_prog context.entry.state.now context.entry.asker.now id (option_copied storage.entry)
+    ensures { DecidesIn context.entry (λ s q. enter_prog s q id (option_copied storage.entry)
         (option_copied units.entry)) result notes.old notes.new }
 {
     let Some(expr) = storage else {
@@ -47,9 +47,8 @@ fn enter_defined(
     name: &StorageName,
     units: Option<&Expr>,
 ) -> Result<Move, Halt>
-    ensures { Decides context.entry.run.version.now context.entry.run.seed
-        (enter_prog context.entry.state.now context.entry.asker.now id (Some (Defined name.now))
-        (option_copied units.entry)) result notes.old notes.new }
+    ensures { DecidesIn context.entry (λ s q. enter_prog s q id (Some (Defined name.now)) (option_copied units.entry))
+        result notes.old notes.new }
 {
     let units = units_of(context, notes, units)?;
     let large = ask_fits(context.run.version, notes, name.name(), u64::from(units))?;

@@ -4,7 +4,8 @@ ghost use Rattle.std.specs.Prelude.{◌≡◌, [], List, Some, None, option_copi
 ghost use Rattle.gw_meaning.specs.declared.watched.Watched.{Watched};
 ghost use Rattle.gw_meaning.specs.Entities.{store_at};
 ghost use Rattle.gw_meaning.specs.Step.{reads_capacity, kind_of_condition, is_open, gate_at, gate_storage, gate_other, gate_prog};
-ghost use Rattle.gw_asking.specs.Deciding.{Decides, Comes};
+ghost use Rattle.gw_asking.specs.Deciding.{Comes};
+ghost use Rattle.gw_values.specs.Contexts.{DecidesIn};
 
 use crate::entering::pass;
 use crate::leading::lead_to;
@@ -25,8 +26,7 @@ pub fn decide_gate(
     entity: Option<&Expr>,
     label: Option<&Expr>,
 ) -> Result<Move, Halt>
-    ensures { Decides context.entry.run.version.now context.entry.run.seed
-        (gate_prog context.entry.state.now context.entry.asker.now id operator (option_copied entity.entry)
+    ensures { DecidesIn context.entry (λ s q. gate_prog s q id operator (option_copied entity.entry)
         (option_copied label.entry)) result notes.old notes.new }
 {
     let Auxiliary::Gate(condition) = operator else {
@@ -50,9 +50,8 @@ fn gate_other(
     entity: &Expr,
     label: Option<&Expr>,
 ) -> Result<Move, Halt>
-    ensures { Decides context.entry.run.version.now context.entry.run.seed
-        (gate_other context.entry.state.now context.entry.asker.now id condition (Some entity.now)
-        (option_copied label.entry)) result notes.old notes.new }
+    ensures { DecidesIn context.entry (λ s q. gate_other s q id condition (Some entity.now) (option_copied label.entry))
+        result notes.old notes.new }
 {
     match label {
         Some(label) => {
@@ -76,8 +75,7 @@ fn gate_storage(
     name: &StorageName,
     label: Option<&Expr>,
 ) -> Result<Move, Halt>
-    ensures { Decides context.entry.run.version.now context.entry.run.seed
-        (gate_storage context.entry.state.now id condition (option_copied label.entry) name.now
+    ensures { DecidesIn context.entry (λ s q. gate_storage s id condition (option_copied label.entry) name.now
         (reads_capacity condition)) result notes.old notes.new }
 {
     if !reads_capacity(condition) {
@@ -97,8 +95,7 @@ fn gate_at(
     key: &Key,
     capacity: u64,
 ) -> Result<Move, Halt>
-    ensures { Decides context.entry.run.version.now context.entry.run.seed
-        (gate_at context.entry.state.now id condition (option_copied label.entry) key.now [] capacity)
+    ensures { DecidesIn context.entry (λ s q. gate_at s id condition (option_copied label.entry) key.now [] capacity)
         result notes.old notes.new }
 {
     match label {
@@ -120,9 +117,8 @@ fn gate_or_lead(
     key: &Key,
     capacity: u64,
 ) -> Result<Move, Halt>
-    ensures { (read : List Watched) → Decides context.entry.run.version.now context.entry.run.seed
-        (gate_at context.entry.state.now id condition (Some label.now) key.now read capacity)
-        result notes.old notes.new }
+    ensures { (read : List Watched) → DecidesIn context.entry
+        (λ s q. gate_at s id condition (Some label.now) key.now read capacity) result notes.old notes.new }
 {
     if is_open(context.state, condition, key, capacity) {
         return Ok(pass(id));

@@ -1,7 +1,7 @@
 // GENERATE: which transaction it makes next.
 ghost use Rattle.std.specs.Prelude.{option_copied};
 ghost use Rattle.gw_meaning.specs.Step.{generate_prog};
-ghost use Rattle.gw_asking.specs.Deciding.{Decides};
+ghost use Rattle.gw_values.specs.Contexts.{DecidesIn};
 
 use gw_asking::Notes;
 use gw_expr::{Expr, Halt, Stop};
@@ -21,9 +21,9 @@ pub fn decide_generate(
     limit: Option<&Expr>,
     priority: Option<&Expr>,
 ) -> Result<Move, Halt>
-    ensures { Decides context.entry.run.version.now context.entry.run.seed
-        (generate_prog context.entry.state.now x.now id (option_copied mean.entry) (option_copied range.entry)
-        (option_copied limit.entry) (option_copied priority.entry)) result notes.old notes.new }
+    ensures { DecidesIn context.entry (λ s q. generate_prog s x.now id (option_copied mean.entry)
+        (option_copied range.entry) (option_copied limit.entry) (option_copied priority.entry))
+        result notes.old notes.new }
 {
     if x.current.number() != 0 {
         return Err(Halt::stop(Stop::NoNextBlock));

@@ -2,7 +2,8 @@
 ghost use Rattle.std.specs.Prelude.{Some, option_copied};
 ghost use Rattle.gw_expr.specs.Term.{Defined};
 ghost use Rattle.gw_meaning.specs.Step.{leave_for, leave_units, leave_prog};
-ghost use Rattle.gw_asking.specs.Deciding.{Decides, Comes};
+ghost use Rattle.gw_asking.specs.Deciding.{Comes};
+ghost use Rattle.gw_values.specs.Contexts.{DecidesIn};
 
 use crate::entering::enter_doing;
 use crate::grants::{all_granted, grants_of};
@@ -24,8 +25,7 @@ pub fn decide_leave(
     storage: Option<&Expr>,
     units: Option<&Expr>,
 ) -> Result<Move, Halt>
-    ensures { Decides context.entry.run.version.now context.entry.run.seed
-        (leave_prog context.entry.state.now context.entry.asker.now id (option_copied storage.entry)
+    ensures { DecidesIn context.entry (λ s q. leave_prog s q id (option_copied storage.entry)
         (option_copied units.entry)) result notes.old notes.new }
 {
     let Some(expr) = storage else {
@@ -46,9 +46,8 @@ fn leave_defined(
     name: &StorageName,
     units: Option<&Expr>,
 ) -> Result<Move, Halt>
-    ensures { Decides context.entry.run.version.now context.entry.run.seed
-        (leave_prog context.entry.state.now context.entry.asker.now id (Some (Defined name.now))
-        (option_copied units.entry)) result notes.old notes.new }
+    ensures { DecidesIn context.entry (λ s q. leave_prog s q id (Some (Defined name.now)) (option_copied units.entry))
+        result notes.old notes.new }
 {
     let units = units_of(context, notes, units)?;
     let storage = context.state.entities().storage(name.key());
@@ -65,8 +64,7 @@ fn leave_units(
     storage: Storage,
     units: u64,
 ) -> Result<Move, Halt>
-    ensures { Decides context.entry.run.version.now context.entry.run.seed
-        (leave_units context.entry.state.now id name.now storage units) result notes.old notes.new }
+    ensures { DecidesIn context.entry (λ s q. leave_units s id name.now storage units) result notes.old notes.new }
 {
     let content = storage.level().content();
     if content < units {

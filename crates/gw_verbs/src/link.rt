@@ -4,7 +4,7 @@ ghost use Rattle.gw_meaning.specs.Step.{link_prog, leaving_prog};
 ghost use Rattle.gw_meaning.specs.declared.moves.Change.TheVariants as changes;
 ghost use Rattle.gw_meaning.specs.declared.moves.Fate.TheVariants as fates;
 ghost use Rattle.gw_meaning.specs.declared.moves.Move.TheVariants as moves;
-ghost use Rattle.gw_asking.specs.Deciding.{Decides};
+ghost use Rattle.gw_values.specs.Contexts.{DecidesIn};
 
 use crate::entering::enter_for;
 use gw_asking::Notes;
@@ -22,9 +22,8 @@ pub fn decide_link(
     entity: Option<&Expr>,
     order: Option<&Expr>,
 ) -> Result<Move, Halt>
-    ensures { Decides context.entry.run.version.now context.entry.run.seed
-        (link_prog context.entry.state.now context.entry.asker.now id (option_copied entity.entry)
-        (option_copied order.entry)) result notes.old notes.new }
+    ensures { DecidesIn context.entry (λ s q. link_prog s q id (option_copied entity.entry) (option_copied order.entry))
+        result notes.old notes.new }
 {
     let Some(expr) = order else {
         return Err(Halt::stop(Stop::NoNextBlock));
@@ -46,8 +45,7 @@ pub(crate) fn leaving(
     count: Option<&Expr>,
     there: u64,
 ) -> Result<u64, Halt>
-    ensures { Decides context.entry.run.version.now context.entry.run.seed
-        (leaving_prog context.entry.state.now context.entry.asker.now (option_copied count.entry) there)
+    ensures { DecidesIn context.entry (λ s q. leaving_prog s q (option_copied count.entry) there)
         result notes.old notes.new }
 {
     let Some(expr) = count else {

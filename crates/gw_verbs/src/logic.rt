@@ -1,7 +1,7 @@
 // LOGIC: a switch is set, reset or inverted.
 ghost use Rattle.std.specs.Prelude.{◌≡◌, option_copied};
 ghost use Rattle.gw_meaning.specs.Step.{switched, logic_prog};
-ghost use Rattle.gw_asking.specs.Deciding.{Decides};
+ghost use Rattle.gw_values.specs.Contexts.{DecidesIn};
 
 use crate::entering::enter_doing;
 use gw_asking::Notes;
@@ -18,8 +18,7 @@ pub fn decide_logic(
     operator: Auxiliary,
     entity: Option<&Expr>,
 ) -> Result<Move, Halt>
-    ensures { Decides context.entry.run.version.now context.entry.run.seed
-        (logic_prog context.entry.state.now context.entry.asker.now id operator (option_copied entity.entry))
+    ensures { DecidesIn context.entry (λ s q. logic_prog s q id operator (option_copied entity.entry))
         result notes.old notes.new }
 {
     let Auxiliary::Logic(switching) = operator else {

@@ -3,6 +3,7 @@ ghost use Rattle.std.specs.Prelude.{◌≡◌, pos, option_copied};
 ghost use Rattle.gw_meaning.specs.Evaluation.{arithmetic};
 ghost use Rattle.gw_meaning.specs.Step.{left_of, loop_back, loop_to, loop_with, loop_prog};
 ghost use Rattle.gw_asking.specs.Deciding.{Decides, Comes};
+ghost use Rattle.gw_values.specs.Contexts.{DecidesIn};
 
 use crate::assign::arithmetic;
 use crate::entering::enter_with;
@@ -23,8 +24,7 @@ pub fn decide_loop(
     parameter: Option<&Expr>,
     label: Option<&Expr>,
 ) -> Result<Move, Halt>
-    ensures { Decides context.entry.run.version.now context.entry.run.seed
-        (loop_prog context.entry.state.now context.entry.asker.now id (option_copied parameter.entry)
+    ensures { DecidesIn context.entry (λ s q. loop_prog s q id (option_copied parameter.entry)
         (option_copied label.entry)) result notes.old notes.new }
 {
     let key = key_of(context, notes, parameter)?;

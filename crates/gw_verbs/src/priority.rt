@@ -1,7 +1,7 @@
 // PRIORITY: a transaction gets another priority.
 ghost use Rattle.std.specs.Prelude.{option_copied};
 ghost use Rattle.gw_meaning.specs.Step.{priority_prog};
-ghost use Rattle.gw_asking.specs.Deciding.{Decides};
+ghost use Rattle.gw_values.specs.Contexts.{DecidesIn};
 
 use crate::entering::enter_with;
 use gw_asking::Notes;
@@ -17,8 +17,7 @@ pub fn decide_priority(
     id: StatementId,
     priority: Option<&Expr>,
 ) -> Result<Move, Halt>
-    ensures { Decides context.entry.run.version.now context.entry.run.seed
-        (priority_prog context.entry.state.now context.entry.asker.now id (option_copied priority.entry))
+    ensures { DecidesIn context.entry (λ s q. priority_prog s q id (option_copied priority.entry))
         result notes.old notes.new }
 {
     let to = value_there(context, notes, priority)?;

@@ -1,7 +1,8 @@
 // QUEUE: units come to a queue.
 ghost use Rattle.std.specs.Prelude.{◌≡◌, option_copied};
 ghost use Rattle.gw_meaning.specs.Step.{is_too_many, queue_units, queue_prog};
-ghost use Rattle.gw_asking.specs.Deciding.{Decides, Comes};
+ghost use Rattle.gw_asking.specs.Deciding.{Comes};
+ghost use Rattle.gw_values.specs.Contexts.{DecidesIn};
 
 use crate::entering::enter_doing;
 use gw_asking::Notes;
@@ -20,8 +21,7 @@ pub fn decide_queue(
     entity: Option<&Expr>,
     units: Option<&Expr>,
 ) -> Result<Move, Halt>
-    ensures { Decides context.entry.run.version.now context.entry.run.seed
-        (queue_prog context.entry.state.now context.entry.asker.now id (option_copied entity.entry)
+    ensures { DecidesIn context.entry (λ s q. queue_prog s q id (option_copied entity.entry)
         (option_copied units.entry)) result notes.old notes.new }
 {
     let key = key_of(context, notes, entity)?;

@@ -2,7 +2,8 @@
 ghost use Rattle.std.specs.Prelude.{◌≡◌, option_copied};
 ghost use Rattle.gw_meaning.specs.Machine.{delay_at};
 ghost use Rattle.gw_meaning.specs.Step.{first_number, is_owner, release_to, release_prog};
-ghost use Rattle.gw_asking.specs.Deciding.{Decides, Comes};
+ghost use Rattle.gw_asking.specs.Deciding.{Comes};
+ghost use Rattle.gw_values.specs.Contexts.{DecidesIn};
 
 use crate::entering::enter_doing;
 use gw_asking::Notes;
@@ -21,8 +22,7 @@ pub fn decide_release(
     id: StatementId,
     entity: Option<&Expr>,
 ) -> Result<Move, Halt>
-    ensures { Decides context.entry.run.version.now context.entry.run.seed
-        (release_prog context.entry.state.now context.entry.asker.now x.now id (option_copied entity.entry))
+    ensures { DecidesIn context.entry (λ s q. release_prog s q x.now id (option_copied entity.entry))
         result notes.old notes.new }
 {
     let key = key_of(context, notes, entity)?;

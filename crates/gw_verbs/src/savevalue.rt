@@ -1,7 +1,8 @@
 // SAVEVALUE: a savevalue is set, or something is added to it or taken from it.
 ghost use Rattle.std.specs.Prelude.{option_copied};
 ghost use Rattle.gw_meaning.specs.Step.{savevalue_with, savevalue_prog};
-ghost use Rattle.gw_asking.specs.Deciding.{Decides, Comes};
+ghost use Rattle.gw_asking.specs.Deciding.{Comes};
+ghost use Rattle.gw_values.specs.Contexts.{DecidesIn};
 
 use crate::assign::{arithmetic, by_sign};
 use crate::entering::enter_doing;
@@ -23,8 +24,7 @@ pub fn decide_savevalue(
     entity: Option<&Expr>,
     value: Option<&Expr>,
 ) -> Result<Move, Halt>
-    ensures { Decides context.entry.run.version.now context.entry.run.seed
-        (savevalue_prog context.entry.state.now context.entry.asker.now id sign (option_copied entity.entry)
+    ensures { DecidesIn context.entry (λ s q. savevalue_prog s q id sign (option_copied entity.entry)
         (option_copied value.entry)) result notes.old notes.new }
 {
     let key = key_of(context, notes, entity)?;

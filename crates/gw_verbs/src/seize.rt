@@ -1,7 +1,8 @@
 // SEIZE: a transaction takes a facility.
 ghost use Rattle.std.specs.Prelude.{option_copied};
 ghost use Rattle.gw_meaning.specs.Step.{seize_or_wait, seize_prog};
-ghost use Rattle.gw_asking.specs.Deciding.{Decides, Comes};
+ghost use Rattle.gw_asking.specs.Deciding.{Comes};
+ghost use Rattle.gw_values.specs.Contexts.{DecidesIn};
 
 use crate::entering::enter_doing;
 use gw_asking::Notes;
@@ -18,8 +19,7 @@ pub fn decide_seize(
     id: StatementId,
     entity: Option<&Expr>,
 ) -> Result<Move, Halt>
-    ensures { Decides context.entry.run.version.now context.entry.run.seed
-        (seize_prog context.entry.state.now context.entry.asker.now id (option_copied entity.entry))
+    ensures { DecidesIn context.entry (λ s q. seize_prog s q id (option_copied entity.entry))
         result notes.old notes.new }
 {
     let key = key_of(context, notes, entity)?;

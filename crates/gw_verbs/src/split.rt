@@ -3,6 +3,7 @@ ghost use Rattle.std.specs.Prelude.{◌≡◌, ◌+◌, Ok, nat_lt, option_copie
 ghost use Rattle.gw_meaning.specs.Machine.{live};
 ghost use Rattle.gw_meaning.specs.Step.{split_prog, split_value, split_count, split_to, split_into};
 ghost use Rattle.gw_asking.specs.Deciding.{Decides, Comes};
+ghost use Rattle.gw_values.specs.Contexts.{DecidesIn};
 
 use crate::entering::enter_bringing;
 use gw_asking::{Notes, Run, ask_label};
@@ -22,8 +23,7 @@ pub fn decide_split(
     copies: Option<&Expr>,
     label: Option<&Expr>,
 ) -> Result<Move, Halt>
-    ensures { Decides context.entry.run.version.now context.entry.run.seed
-        (split_prog context.entry.state.now context.entry.asker.now id (option_copied copies.entry)
+    ensures { DecidesIn context.entry (λ s q. split_prog s q id (option_copied copies.entry)
         (option_copied label.entry)) result notes.old notes.new }
 {
     let copies = value_there(context, notes, copies)?;
@@ -38,8 +38,8 @@ fn split_value(
     label: Option<&Expr>,
     copies: Val,
 ) -> Result<Move, Halt>
-    ensures { Decides context.entry.run.version.now context.entry.run.seed
-        (split_value context.entry.state.now id (option_copied label.entry) copies) result notes.old notes.new }
+    ensures { DecidesIn context.entry (λ s q. split_value s id (option_copied label.entry) copies)
+        result notes.old notes.new }
 {
     if copies.is_negative() {
         return Err(Halt::stop(Stop::BadCount));

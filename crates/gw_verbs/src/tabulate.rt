@@ -2,7 +2,7 @@
 ghost use Rattle.std.specs.Prelude.{option_copied};
 ghost use Rattle.gw_names.specs.declared.key.Key.TheVariants as keys;
 ghost use Rattle.gw_meaning.specs.Step.{tabulate_prog, tabulate_with};
-ghost use Rattle.gw_asking.specs.Deciding.{Decides};
+ghost use Rattle.gw_values.specs.Contexts.{DecidesIn};
 
 use crate::entering::enter_doing;
 use gw_asking::{Notes, ask_argument};
@@ -19,8 +19,7 @@ pub fn decide_tabulate(
     id: StatementId,
     table: Option<&Expr>,
 ) -> Result<Move, Halt>
-    ensures { Decides context.entry.run.version.now context.entry.run.seed
-        (tabulate_prog context.entry.state.now context.entry.asker.now id (option_copied table.entry))
+    ensures { DecidesIn context.entry (λ s q. tabulate_prog s q id (option_copied table.entry))
         result notes.old notes.new }
 {
     let Some(expr) = table else {
@@ -43,8 +42,7 @@ fn tabulate_with(
     name: &Name,
     argument: Option<&Expr>,
 ) -> Result<Move, Halt>
-    ensures { Decides context.entry.run.version.now context.entry.run.seed
-        (tabulate_with context.entry.state.now context.entry.asker.now id (keys.Defined name.now)
+    ensures { DecidesIn context.entry (λ s q. tabulate_with s q id (keys.Defined name.now)
         (option_copied argument.entry)) result notes.old notes.new }
 {
     let value = value_there(context, notes, argument)?;

@@ -1,7 +1,7 @@
 // TERMINATE: a transaction is destroyed.
 ghost use Rattle.std.specs.Prelude.{option_copied};
 ghost use Rattle.gw_meaning.specs.Step.{terminate_prog};
-ghost use Rattle.gw_asking.specs.Deciding.{Decides};
+ghost use Rattle.gw_values.specs.Contexts.{DecidesIn};
 
 use crate::entering::enter_for;
 use gw_asking::Notes;
@@ -17,8 +17,7 @@ pub fn decide_terminate(
     id: StatementId,
     count: Option<&Expr>,
 ) -> Result<Move, Halt>
-    ensures { Decides context.entry.run.version.now context.entry.run.seed
-        (terminate_prog context.entry.state.now context.entry.asker.now id (option_copied count.entry))
+    ensures { DecidesIn context.entry (λ s q. terminate_prog s q id (option_copied count.entry))
         result notes.old notes.new }
 {
     let count = value_or_zero(context, notes, count)?;

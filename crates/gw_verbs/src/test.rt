@@ -1,7 +1,8 @@
 // TEST: a relation of two values that holds, leads elsewhere, or is waited for.
 ghost use Rattle.std.specs.Prelude.{◌≡◌, Some, None, Ok, option_copied};
 ghost use Rattle.gw_meaning.specs.Step.{holds, lead_to, pass_or_wait, test_or_wait, test_prog};
-ghost use Rattle.gw_asking.specs.Deciding.{Decides, Comes};
+ghost use Rattle.gw_asking.specs.Deciding.{Comes};
+ghost use Rattle.gw_values.specs.Contexts.{DecidesIn};
 
 use crate::entering::pass;
 use crate::leading::lead_to;
@@ -23,8 +24,7 @@ pub fn decide_test(
     second: Option<&Expr>,
     label: Option<&Expr>,
 ) -> Result<Move, Halt>
-    ensures { Decides context.entry.run.version.now context.entry.run.seed
-        (test_prog context.entry.state.now context.entry.asker.now id relation (option_copied first.entry)
+    ensures { DecidesIn context.entry (λ s q. test_prog s q id relation (option_copied first.entry)
         (option_copied second.entry) (option_copied label.entry)) result notes.old notes.new }
 {
     match label {
@@ -43,8 +43,7 @@ fn test_or_lead(
     second: Option<&Expr>,
     label: &Expr,
 ) -> Result<Move, Halt>
-    ensures { Decides context.entry.run.version.now context.entry.run.seed
-        (test_prog context.entry.state.now context.entry.asker.now id relation (option_copied first.entry)
+    ensures { DecidesIn context.entry (λ s q. test_prog s q id relation (option_copied first.entry)
         (option_copied second.entry) (Some label.now)) result notes.old notes.new }
 {
     let first = value_there(context, notes, first)?;
@@ -64,8 +63,7 @@ fn test_or_wait(
     first: Option<&Expr>,
     second: Option<&Expr>,
 ) -> Result<Move, Halt>
-    ensures { Decides context.entry.run.version.now context.entry.run.seed
-        (test_or_wait context.entry.state.now context.entry.asker.now id relation (option_copied first.entry)
+    ensures { DecidesIn context.entry (λ s q. test_or_wait s q id relation (option_copied first.entry)
         (option_copied second.entry)) result notes.old notes.new }
 {
     let mut read = Vec::new(context.run.alloc);

@@ -2,6 +2,7 @@
 ghost use Rattle.std.specs.Prelude.{Ok, option_copied};
 ghost use Rattle.gw_meaning.specs.Step.{unlink_prog, unlink_count, unlink_to, unlink_some};
 ghost use Rattle.gw_asking.specs.Deciding.{Decides, Comes};
+ghost use Rattle.gw_values.specs.Contexts.{DecidesIn};
 
 use crate::entering::enter_bringing;
 use crate::link::leaving;
@@ -22,8 +23,7 @@ pub fn decide_unlink(
     label: Option<&Expr>,
     count: Option<&Expr>,
 ) -> Result<Move, Halt>
-    ensures { Decides context.entry.run.version.now context.entry.run.seed
-        (unlink_prog context.entry.state.now context.entry.asker.now id (option_copied entity.entry)
+    ensures { DecidesIn context.entry (λ s q. unlink_prog s q id (option_copied entity.entry)
         (option_copied label.entry) (option_copied count.entry)) result notes.old notes.new }
 {
     let key = key_of(context, notes, entity)?;
