@@ -8,7 +8,7 @@ use Rattle.std.specs.Slice.{IsItemAt}
 use Rattle.gw_nums.specs.Range.{is_below}
 use Rattle.gw_names.specs.declared.key.Key.{Key}
 use Rattle.gw_names.specs.Keys.{key_eq}
-use Rattle.gw_entities.specs.Tables.{value_of, with_value}
+use Rattle.gw_meaning.specs.Tables.{value_of, with_value}
 use Rattle.gw_meaning.specs.declared.transaction.Transaction.{Transaction}
 use Rattle.gw_meaning.specs.Machine.{delay_at, waiting}
 use Rattle.gw_meaning.specs.Changes.{lined_up}

@@ -7,7 +7,7 @@ use Rattle.gw_expr.specs.declared.expr.Discipline.{Discipline}
 use Rattle.gw_expr.specs.declared.expr.Discipline.TheVariants as disciplines
 use Rattle.gw_names.specs.declared.key.Key.{Key}
 use Rattle.gw_names.specs.Keys.{key_eq}
-use Rattle.gw_entities.specs.Tables.{value_of, with_value, IsPlace}
+use Rattle.gw_meaning.specs.Tables.{value_of, with_value, IsPlace}
 use Rattle.gw_entities.proofs.Anew.{zip_anew}
 use Rattle.gw_entities.proofs.Entries.{pushed_is}
 use Rattle.gw_entities.proofs.Lookups.{Some_same}

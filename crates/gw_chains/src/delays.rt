@@ -4,7 +4,7 @@ ghost use Rattle.std.specs.List.{list_any};
 ghost use Rattle.std.specs.Map.{keys_of};
 ghost use Rattle.gw_names.specs.declared.key.Key.{Key};
 ghost use Rattle.gw_names.specs.Keys.{key_eq};
-ghost use Rattle.gw_entities.specs.Tables.{value_of, with_value};
+ghost use Rattle.gw_meaning.specs.Tables.{value_of, with_value};
 ghost use Rattle.gw_meaning.specs.Changes.{lined_up, some_let_in};
 ghost use Rattle.gw_meaning.specs.Machine.{Machine, delay_at, waiting};
 ghost use Rattle.gw_chains.specs.Chains.{delays_of, items_of, room_of, first_of, without_first, with_grant};

@@ -1,5 +1,5 @@
 ghost use Rattle.std.specs.Prelude.{◌≡◌, ◌+◌, ◌-◌, ◌<◌, ◌≤◌, ◌^◌, unwrap_or, [], length, map, option_copied, None, IfOk, OnOk, OnErr};
-ghost use Rattle.gw_entities.specs.Tables.{value_of, with_value, IsPlace};
+ghost use Rattle.gw_meaning.specs.Tables.{value_of, with_value, IsPlace};
 ghost use Rattle.gw_meaning.specs.Changes.{linked_to, some_unlinked, user_chain_anew};
 ghost use Rattle.gw_meaning.specs.Machine.{Machine, members_of, no_chain, user_chain_at, waiting};
 

@@ -6,7 +6,7 @@ use Rattle.std.proofs.lemmas.Map.Keys.{IsDistinct-head, IsDistinct-tail}
 use Rattle.std.specs.Map.{keys_of, lookup}
 use Rattle.gw_names.specs.declared.key.Key.{Key}
 use Rattle.gw_names.specs.Keys.{key_eq}
-use Rattle.gw_entities.specs.Tables.{value_of, with_value, AreApart}
+use Rattle.gw_meaning.specs.Tables.{value_of, with_value, AreApart}
 use Rattle.gw_entities.proofs.TableLaws.{key_eq_equiv}
 
 module _ {K V : Type 0} where

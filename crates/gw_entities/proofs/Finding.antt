@@ -2,7 +2,7 @@
 use Rattle.std.proofs.Common.{◌≡◌, Bool, true, false, cond, List, [], ◌∷◌, Some, refl, sym, ap, ◌∙◌}
 use Rattle.gw_names.specs.declared.key.Key.{Key}
 use Rattle.gw_names.specs.Keys.{key_eq}
-use Rattle.gw_entities.specs.Tables.{value_of, with_value}
+use Rattle.gw_meaning.specs.Tables.{value_of, with_value}
 use Rattle.gw_entities.proofs.TableLaws.{key_eq_equiv}
 
 clash : (b : Bool) → b ≡ false → b ≡ true → ⊥

@@ -7,7 +7,8 @@ use Rattle.std.proofs.lemmas.List.{map-append, take-append-drop}
 use Rattle.gw_names.specs.declared.key.Key.{Key}
 use Rattle.gw_entities.specs.declared.own_list.Item.{Item}
 use Rattle.gw_entities.specs.Owned.{Entry, all_of, said_by, entry_of, with_own, AreBelow, AreFrom, AreKnown, AreRising}
-use Rattle.gw_entities.specs.Parameters.{Held, assigned, grouped, inherited}
+use Rattle.gw_meaning.specs.Parameters.{Held, assigned, inherited}
+use Rattle.gw_entities.specs.Keeping.{grouped}
 use Rattle.gw_entities.proofs.Lookups.{Some_same}
 use Rattle.gw_entities.proofs.ParameterLaws.{assigned_is}
 

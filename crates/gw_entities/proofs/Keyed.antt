@@ -6,7 +6,7 @@ use Rattle.std.specs.Map.{keys_of, set_value}
 use Rattle.indexmap.specs.IndexMap.{set_value_at}
 use Rattle.gw_names.specs.declared.key.Key.{Key}
 use Rattle.gw_names.specs.Keys.{key_eq}
-use Rattle.gw_entities.specs.Tables.{value_of, with_value, IsPlace}
+use Rattle.gw_meaning.specs.Tables.{value_of, with_value, IsPlace}
 use Rattle.gw_entities.proofs.Entries.{none_of_keys, no_key, apart_pushed}
 use Rattle.gw_entities.proofs.Finding.{value_of-with_value}
 use Rattle.gw_entities.proofs.Lookups.{Some_same, written_at}

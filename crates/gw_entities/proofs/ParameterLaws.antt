@@ -7,9 +7,10 @@ use Rattle.std.proofs.lemmas.Bool.{eqb-true}
 use Rattle.std.proofs.lemmas.Bool.Decides.{nat_tests}
 use Rattle.gw_names.specs.declared.key.Key.{Key}
 use Rattle.gw_names.specs.Keys.{key_eq}
-use Rattle.gw_entities.specs.Tables.{value_of, with_value}
+use Rattle.gw_meaning.specs.Tables.{value_of, with_value}
 use Rattle.gw_entities.specs.Owned.{Entry, is_own, own_of, all_of, with_own, without_own, AreFrom, AreRising}
-use Rattle.gw_entities.specs.Parameters.{Held, values_at, parameter_at, with_values, assigned, without, with_first, grouped}
+use Rattle.gw_meaning.specs.Parameters.{Held, values_at, parameter_at, with_values, assigned, without}
+use Rattle.gw_entities.specs.Keeping.{with_first, grouped}
 use Rattle.gw_entities.proofs.OwnLaws.{rising_with, rising_without}
 
 abbrev Values : Type 0

@@ -8,7 +8,8 @@ use Rattle.std.proofs.lemmas.Cmp.{nat_eq_equiv}
 use Rattle.gw_names.specs.declared.key.Key.{Key}
 use Rattle.gw_names.specs.declared.key.Key.TheVariants.{Num, Named, Defined}
 use Rattle.gw_names.specs.Keys.{key_eq, told_by}
-use Rattle.gw_entities.specs.QueueArrivals.{came, with_queue_arrival, queue_arrival_of, AreOnce}
+use Rattle.gw_meaning.specs.QueueArrivals.{came, with_queue_arrival, AreOnce}
+use Rattle.gw_entities.specs.Keeping.{queue_arrival_of}
 use Rattle.gw_entities.specs.Owned.{Entry, own_of, with_own, AreFrom, AreRising}
 use Rattle.gw_entities.proofs.Lookups.{Some_same}
 use Rattle.gw_entities.proofs.TableLaws.{key_eq_equiv}

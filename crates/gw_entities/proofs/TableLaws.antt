@@ -6,7 +6,7 @@ use Rattle.std.specs.Map.{set_value}
 use Rattle.indexmap.specs.IndexMap.{insert_entry}
 use Rattle.gw_names.specs.declared.key.Key.{Key}
 use Rattle.gw_names.specs.Keys.{key_eq, told_by}
-use Rattle.gw_entities.specs.Tables.{value_of, with_value}
+use Rattle.gw_meaning.specs.Tables.{value_of, with_value}
 
 pub key_eq_equiv : IsEquivalence key_eq
 key_eq_equiv = on_equiv told_by nat_list_eq_equiv

@@ -4,7 +4,7 @@ use Rattle.std.specs.List.{sum_by, range_with_len}
 use Rattle.std.proofs.lemmas.List.Sums.{sum_by-cons}
 use Rattle.std.proofs.Math.Nat.{mul-zero, mul-suc}
 use Rattle.std.proofs.lemmas.Bool.Decides.{nat_tests}
-use Rattle.gw_entities.specs.Levels.{Course, Change, sum_up_to, changed, behind, GoOn, content_in, SumIsOverTicks}
+use Rattle.gw_meaning.specs.Levels.{Course, Change, sum_up_to, changed, behind, GoOn, content_in, SumIsOverTicks}
 
 -- the sum over n ticks from a on
 over : (ℕ → ℕ) → ℕ → ℕ → ℕ

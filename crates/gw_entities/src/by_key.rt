@@ -2,7 +2,7 @@ ghost use Rattle.std.specs.Prelude.{◌≡◌, [], length, map, None, slice_get,
 ghost use Rattle.std.specs.Prelude.{IfOk, OnOk, OnErr};
 ghost use Rattle.std.specs.Option.{option_map};
 ghost use Rattle.gw_names.specs.declared.key.Key.{Key};
-ghost use Rattle.gw_entities.specs.Tables.{value_of, with_value, AreApart, IsPlace};
+ghost use Rattle.gw_meaning.specs.Tables.{value_of, with_value, AreApart, IsPlace};
 
 use crate::counted::Counted;
 use crate::key_set::KeySet;

@@ -1,5 +1,5 @@
 ghost use Rattle.std.specs.Prelude.{◌≡◌, is_some, if◌then◌else◌};
-ghost use Rattle.gw_entities.specs.Records.{never_owned, seized, released, facility_anew};
+ghost use Rattle.gw_meaning.specs.Records.{never_owned, seized, released, facility_anew};
 
 use crate::counted::Counted;
 use crate::level::Level;
@@ -16,7 +16,7 @@ pub struct Facility {
 
 impl Model for Facility {
     ghost use Rattle.std.specs.Prelude.{◌≡◌, is_some, if◌then◌else◌};
-    ghost use Rattle.gw_entities.specs.Records.{Ownership};
+    ghost use Rattle.gw_meaning.specs.Records.{Ownership};
 
     ghost Value = { Ownership };
 

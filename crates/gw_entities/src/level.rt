@@ -1,5 +1,5 @@
 ghost use Rattle.std.specs.Prelude.{◌≡◌, ◌≤◌, ◌-◌, ◌*◌, ◌^◌, max};
-ghost use Rattle.gw_entities.specs.Levels.{at_first, sum_up_to, changed, restarted};
+ghost use Rattle.gw_meaning.specs.Levels.{at_first, sum_up_to, changed, restarted};
 
 use gw_nums::Clock;
 use std::marker::Model;
@@ -17,7 +17,7 @@ pub struct Level {
 
 impl Model for Level {
     ghost use Rattle.std.specs.Prelude.{◌≤◌, ◌-◌, ◌*◌, ◌^◌};
-    ghost use Rattle.gw_entities.specs.Levels.{Course};
+    ghost use Rattle.gw_meaning.specs.Levels.{Course};
 
     ghost Value = { Course };
 

@@ -1,6 +1,7 @@
 ghost use Rattle.std.specs.Prelude.{◌≡◌, ◌+◌, ◌*◌, ◌≤◌, [], length, IfOk, OnOk, OnErr};
 ghost use Rattle.gw_entities.specs.Owned.{AreKnown, AreRising, said_by};
-ghost use Rattle.gw_entities.specs.Parameters.{all_inherited, assigned, grouped, inherited, parameter_at, values_at, without};
+ghost use Rattle.gw_meaning.specs.Parameters.{all_inherited, assigned, inherited, parameter_at, values_at, without};
+ghost use Rattle.gw_entities.specs.Keeping.{grouped};
 
 use crate::own_list::{Item, OwnList};
 use gw_names::Key;
@@ -19,7 +20,7 @@ impl Model for Parameters {
     ghost use Rattle.std.specs.Prelude.{ℕ, ℤ, List};
     ghost use Rattle.gw_names.specs.declared.key.Key.{Key};
     ghost use Rattle.gw_entities.specs.Owned.{AreRising};
-    ghost use Rattle.gw_entities.specs.Parameters.{grouped};
+    ghost use Rattle.gw_entities.specs.Keeping.{grouped};
 
     ghost Value = { List (ℕ × List (Key × ℤ)) };
 

@@ -1,5 +1,5 @@
 ghost use Rattle.std.specs.Prelude.{◌≡◌, ◌≤◌};
-ghost use Rattle.gw_entities.specs.Records.{no_line, queued, departed, queue_anew};
+ghost use Rattle.gw_meaning.specs.Records.{no_line, queued, departed, queue_anew};
 
 use crate::counted::Counted;
 use crate::level::Level;
@@ -17,7 +17,7 @@ pub struct Queue {
 
 impl Model for Queue {
     ghost use Rattle.std.specs.Prelude.{◌≤◌};
-    ghost use Rattle.gw_entities.specs.Records.{Line};
+    ghost use Rattle.gw_meaning.specs.Records.{Line};
 
     ghost Value = { Line };
 

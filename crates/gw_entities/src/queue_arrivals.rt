@@ -1,6 +1,6 @@
 ghost use Rattle.std.specs.Prelude.{◌≡◌, ◌==◌, ◌<◌, [], Some, length, slice_get, IfOk, OnOk};
 ghost use Rattle.gw_names.specs.declared.key.Key.{Key};
-ghost use Rattle.gw_entities.specs.QueueArrivals.{came, with_queue_arrival, AreOnce};
+ghost use Rattle.gw_meaning.specs.QueueArrivals.{came, with_queue_arrival, AreOnce};
 
 use crate::own_list::OwnList;
 use gw_names::Key;
@@ -16,7 +16,8 @@ pub struct QueueArrivals {
 
 impl Model for QueueArrivals {
     ghost use Rattle.std.specs.Prelude.{map};
-    ghost use Rattle.gw_entities.specs.QueueArrivals.{Arrivals, AreOnce, queue_arrival_of};
+    ghost use Rattle.gw_meaning.specs.QueueArrivals.{AreOnce};
+    ghost use Rattle.gw_entities.specs.Keeping.{Arrivals, queue_arrival_of};
     ghost use Rattle.gw_entities.specs.Owned.{AreRising};
 
     ghost Value = { Arrivals };

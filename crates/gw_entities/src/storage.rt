@@ -1,5 +1,5 @@
 ghost use Rattle.std.specs.Prelude.{◌≡◌, ◌≤◌};
-ghost use Rattle.gw_entities.specs.Records.{never_used, entered, left, storage_anew};
+ghost use Rattle.gw_meaning.specs.Records.{never_used, entered, left, storage_anew};
 
 use crate::counted::Counted;
 use crate::level::Level;
@@ -18,7 +18,7 @@ pub struct Storage {
 
 impl Model for Storage {
     ghost use Rattle.std.specs.Prelude.{◌≤◌};
-    ghost use Rattle.gw_entities.specs.Records.{Store};
+    ghost use Rattle.gw_meaning.specs.Records.{Store};
 
     ghost Value = { Store };
 

@@ -30,7 +30,7 @@ use Rattle.gw_meaning.specs.declared.watched.Watched.TheVariants as watched
 use Rattle.gw_meaning.specs.Listing.{Listing, argument_at, command_at, capacity_at, block_at, label_at, generates_in, is_generate}
 use Rattle.gw_meaning.specs.Numbers.{AreNumbered}
 use Rattle.gw_names.specs.declared.key.Key.{Key}
-use Rattle.gw_entities.specs.QueueArrivals.{came}
+use Rattle.gw_meaning.specs.QueueArrivals.{came}
 use Rattle.gw_meaning.specs.Entities.{facility_at, line_at, savevalue_at}
 use Rattle.gw_meaning.specs.Machine.{Machine, raised, live, delay_at, user_chain_at}
 use Rattle.gw_meaning.specs.Questions.{result_of}
@@ -41,7 +41,7 @@ use Rattle.gw_expr.specs.declared.token.Operator.TheVariants as operators
 use Rattle.gw_meaning.specs.declared.auxiliary.Auxiliary.{Auxiliary}
 use Rattle.gw_meaning.specs.declared.auxiliary.Auxiliary.TheVariants as auxiliaries
 use Rattle.gw_meaning.specs.declared.auxiliary.Condition.{Condition}
-use Rattle.gw_entities.specs.Parameters.{parameter_at}
+use Rattle.gw_meaning.specs.Parameters.{parameter_at}
 use Rattle.gw_meaning.specs.Step.{by_sign, assign_prog, left_of, loop_back, loop_to, loop_prog, pass_or_wait, holds, test_prog, kind_of_condition, is_open, reads_capacity, gate_at, gate_storage, gate_other, gate_of, gate_prog, logic_prog, savevalue_prog, split_to, split_count, split_prog, link_prog, unlink_to, unlink_count, leaving_prog, unlink_prog, tabulate_prog}
 use Rattle.std.proofs.lemmas.List.{map-append, length-map}
 use Rattle.gw_expr.specs.declared.expr.Discipline.{Discipline}

@@ -23,7 +23,7 @@ use Rattle.gw_meaning.specs.declared.watched.Watched.{Watched}
 use Rattle.gw_meaning.specs.Listing.{Listing}
 use Rattle.gw_meaning.specs.Numbers.{AreNumbered}
 use Rattle.gw_names.specs.declared.key.Key.{Key}
-use Rattle.gw_entities.specs.Records.{Line}
+use Rattle.gw_meaning.specs.Records.{Line}
 use Rattle.gw_meaning.specs.Entities.{facility_at, line_at}
 use Rattle.gw_meaning.specs.Machine.{Machine, raised, live, delay_at, user_chain_at}
 use Rattle.gw_meaning.specs.Changes.{decided}

@@ -3,8 +3,8 @@ use Rattle.std.proofs.Common.{◌≡◌, ℕ, zero, suc, ℤ, List, [], ◌∷�
 use Rattle.std.proofs.lemmas.List.{map-append}
 use Rattle.gw_meaning.specs.declared.transaction.Transaction.{Transaction}
 use Rattle.gw_names.specs.declared.key.Key.{Key}
-use Rattle.gw_entities.specs.Tables.{with_value}
-use Rattle.gw_entities.specs.Parameters.{Held, values_at}
+use Rattle.gw_meaning.specs.Tables.{with_value}
+use Rattle.gw_meaning.specs.Parameters.{Held, values_at}
 use Rattle.gw_meaning.specs.declared.entity_change.Update.{Update}
 use Rattle.gw_meaning.specs.declared.moves.Arrival.{Arrival}
 use Rattle.gw_meaning.specs.declared.transaction.Count.{Count}

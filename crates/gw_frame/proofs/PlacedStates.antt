@@ -8,7 +8,7 @@ use Rattle.gw_meaning.specs.declared.transaction.Transaction.{Transaction}
 use Rattle.gw_meaning.specs.declared.transaction.Event.{Event}
 use Rattle.gw_meaning.specs.declared.transaction.Count.{Count}
 use Rattle.gw_names.specs.declared.key.Key.{Key}
-use Rattle.gw_entities.specs.Tables.{with_value}
+use Rattle.gw_meaning.specs.Tables.{with_value}
 use Rattle.gw_expr.specs.declared.expr.Discipline.{Discipline}
 use Rattle.gw_expr.specs.declared.expr.Discipline.TheVariants as disciplines
 use Rattle.gw_meaning.specs.declared.moves.Arrival.{Arrival}

@@ -4,7 +4,7 @@ use Rattle.std.specs.List.{AllByRecursion}
 use Rattle.std.proofs.lemmas.Bool.{cases_Bool, ne_eqb}
 use Rattle.gw_names.specs.declared.key.Key.{Key}
 use Rattle.gw_names.specs.Keys.{key_eq}
-use Rattle.gw_entities.specs.QueueArrivals.{came, with_queue_arrival}
+use Rattle.gw_meaning.specs.QueueArrivals.{came, with_queue_arrival}
 use Rattle.gw_meaning.specs.declared.entity_change.Update.{Update}
 use Rattle.gw_meaning.specs.declared.entity_change.Update.TheVariants as updates
 use Rattle.gw_meaning.specs.declared.entity_change.QueueUpdate.TheVariants as of_queue

@@ -2,8 +2,8 @@
 use Rattle.std.proofs.Common.{◌≡◌, ℕ, suc, ◌-◌, ◌*◌, ◌≤◌, List, [], ◌∷◌, Option, Some, None, refl, arith}
 use Rattle.std.proofs.lemmas.List.Elements.{All-from_recursion}
 use Rattle.gw_names.specs.declared.key.Key.{Key}
-use Rattle.gw_entities.specs.Levels.{Course, changed}
-use Rattle.gw_entities.specs.Records.{Ownership, never_owned, seized, released}
+use Rattle.gw_meaning.specs.Levels.{Course, changed}
+use Rattle.gw_meaning.specs.Records.{Ownership, never_owned, seized, released}
 use Rattle.gw_meaning.specs.declared.entity_change.Update.{Update}
 use Rattle.gw_meaning.specs.declared.entity_change.Update.TheVariants as updates
 use Rattle.gw_meaning.specs.declared.entity_change.FacilityUpdate.TheVariants as of_facility
@@ -14,7 +14,7 @@ use Rattle.gw_laws.specs.Facilities.{owners, IsUsed, FacilitiesAreUsed}
 use Rattle.gw_laws.proofs.Entries.{Each, at_has, with_has}
 use Rattle.gw_laws.proofs.EntityLaws.{KeepsEntities, over_entities}
 use Rattle.gw_meaning.specs.Entities.{all_anew}
-use Rattle.gw_entities.specs.Records.{facility_anew}
+use Rattle.gw_meaning.specs.Records.{facility_anew}
 
 abbrev AreUsed : ℕ → ℕ → List (Key × Ownership) → Type 0
 AreUsed clock steps = Each (IsUsed clock steps)

@@ -7,8 +7,8 @@ use Rattle.std.proofs.lemmas.List.Elements.{All-from_recursion}
 use Rattle.gw_names.specs.declared.key.Key.{Key}
 use Rattle.gw_names.specs.declared.key.Key.TheVariants as keys
 use Rattle.gw_names.specs.Keys.{key_eq}
-use Rattle.gw_entities.specs.Records.{Store, never_used, entered, left}
-use Rattle.gw_entities.specs.Tables.{value_of, with_value}
+use Rattle.gw_meaning.specs.Records.{Store, never_used, entered, left}
+use Rattle.gw_meaning.specs.Tables.{value_of, with_value}
 use Rattle.gw_entities.proofs.QueueArrivalLaws.{key_same}
 use Rattle.gw_entities.proofs.TableLaws.{key_eq_equiv}
 use Rattle.gw_meaning.specs.declared.transaction.Transaction.{Transaction}

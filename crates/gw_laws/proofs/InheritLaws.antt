@@ -5,8 +5,8 @@ use Rattle.std.specs.Map.{lookup}
 use Rattle.std.proofs.lemmas.Bool.{cases_Bool, cases_eq, cases_lt, ne_eqb}
 use Rattle.gw_names.specs.declared.key.Key.{Key}
 use Rattle.gw_names.specs.Keys.{key_eq}
-use Rattle.gw_entities.specs.Tables.{value_of, with_value}
-use Rattle.gw_entities.specs.Parameters.{Held, values_at, parameter_at, with_values, assigned, inherited, without}
+use Rattle.gw_meaning.specs.Tables.{value_of, with_value}
+use Rattle.gw_meaning.specs.Parameters.{Held, values_at, parameter_at, with_values, assigned, inherited, without}
 use Rattle.gw_entities.proofs.QueueArrivalLaws.{key_same}
 use Rattle.gw_entities.proofs.Finding.{value_of-with_value}
 use Rattle.gw_meaning.specs.declared.transaction.Transaction.{Transaction}

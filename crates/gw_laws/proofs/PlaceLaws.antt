@@ -5,7 +5,7 @@ use Rattle.std.proofs.lemmas.Bool.{cases_Bool, eq-eqb}
 use Rattle.std.proofs.lemmas.List.Elements.{Contains-append_cases}
 use Rattle.gw_names.specs.declared.key.Key.{Key}
 use Rattle.gw_names.specs.Keys.{key_eq}
-use Rattle.gw_entities.specs.Tables.{value_of, with_value}
+use Rattle.gw_meaning.specs.Tables.{value_of, with_value}
 use Rattle.gw_entities.proofs.QueueArrivalLaws.{key_same}
 use Rattle.gw_entities.proofs.TableLaws.{key_eq_equiv}
 use Rattle.gw_meaning.specs.declared.transaction.Transaction.{Transaction}

@@ -2,7 +2,7 @@
 use Rattle.std.proofs.Common.{ℕ, ◌≤◌, Bool, true, false, List, [], ◌∷◌, refl, arith}
 use Rattle.std.proofs.lemmas.List.Elements.{All-from_recursion}
 use Rattle.gw_names.specs.declared.key.Key.{Key}
-use Rattle.gw_entities.specs.Records.{Line, no_line, queued, departed}
+use Rattle.gw_meaning.specs.Records.{Line, no_line, queued, departed}
 use Rattle.gw_meaning.specs.declared.entity_change.Update.{Update}
 use Rattle.gw_meaning.specs.declared.entity_change.Update.TheVariants as updates
 use Rattle.gw_meaning.specs.declared.entity_change.QueueUpdate.TheVariants as of_queue
@@ -14,7 +14,7 @@ use Rattle.gw_laws.specs.Queues.{IsWithin, QueuesAreWithin}
 use Rattle.gw_laws.proofs.Entries.{Each, at_has, with_has}
 use Rattle.gw_laws.proofs.EntityLaws.{KeepsEntities, over_entities}
 use Rattle.gw_meaning.specs.Entities.{all_anew}
-use Rattle.gw_entities.specs.Records.{queue_anew}
+use Rattle.gw_meaning.specs.Records.{queue_anew}
 
 abbrev AreWithin : ℕ → List (Key × Line) → Type 0
 AreWithin clock = Each (IsWithin clock)

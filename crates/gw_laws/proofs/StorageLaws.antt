@@ -7,8 +7,8 @@ use Rattle.std.proofs.lemmas.Bool.{leb-true}
 use Rattle.gw_names.specs.declared.key.Key.{Key}
 use Rattle.gw_names.specs.declared.key.Key.TheVariants as keys
 use Rattle.gw_names.specs.Keys.{key_eq}
-use Rattle.gw_entities.specs.Records.{Store, never_used, entered, left}
-use Rattle.gw_entities.specs.Tables.{value_of, with_value}
+use Rattle.gw_meaning.specs.Records.{Store, never_used, entered, left}
+use Rattle.gw_meaning.specs.Tables.{value_of, with_value}
 use Rattle.gw_entities.proofs.QueueArrivalLaws.{key_same}
 use Rattle.gw_meaning.specs.declared.transaction.Transaction.{Transaction}
 use Rattle.gw_meaning.specs.declared.entity_change.Update.{Update}
@@ -22,7 +22,7 @@ use Rattle.gw_frame.proofs.Known.{does_fit, grants_of, ComesIn, GoesOut, IsDecid
 use Rattle.gw_laws.specs.Storages.{IsWithin, IsStored, StoragesAreWithin}
 use Rattle.gw_laws.proofs.EntityLaws.{KeepsEntities, over_entities}
 use Rattle.gw_meaning.specs.Entities.{all_anew}
-use Rattle.gw_entities.specs.Records.{storage_anew}
+use Rattle.gw_meaning.specs.Records.{storage_anew}
 
 pub no_room : (n m : ℕ) → nat_le n m ≡ false → m < n
 no_room n m is = grind (arith, nat_tests)

@@ -7,7 +7,7 @@ use Rattle.gw_expr.specs.declared.expr.Discipline.TheVariants as disciplines
 use Rattle.gw_expr.specs.Term.{Term, Value, Named, Defined, Table, Order}
 use Rattle.gw_expr.specs.Evaluation.{value_of, value_by, value_of_atom}
 use Rattle.gw_expr.specs.declared.atom.Atom.TheVariants as atoms
-use Rattle.gw_entities.specs.Records.{never_owned, seized, queued, no_line, never_used, entered}
+use Rattle.gw_meaning.specs.Records.{never_owned, seized, queued, no_line, never_used, entered}
 use Rattle.gw_meaning.specs.declared.auxiliary.Auxiliary.{Auxiliary}
 use Rattle.gw_meaning.specs.declared.auxiliary.Auxiliary.TheVariants as auxiliaries
 use Rattle.gw_meaning.specs.declared.auxiliary.Condition.TheVariants as conditions

@@ -9,9 +9,9 @@ use Rattle.gw_names.specs.declared.class.Class.TheVariants as class
 use Rattle.gw_names.specs.declared.key.Key.{Key}
 use Rattle.gw_names.specs.declared.key.Key.TheVariants as keys
 use Rattle.gw_names.specs.declared.verb.BlockVerb.TheVariants as blocks
-use Rattle.gw_entities.specs.Records.{Ownership, Line, Store}
-use Rattle.gw_entities.specs.Tables.{value_of, with_value}
-use Rattle.gw_entities.specs.Parameters.{parameter_at, values_at}
+use Rattle.gw_meaning.specs.Records.{Ownership, Line, Store}
+use Rattle.gw_meaning.specs.Tables.{value_of, with_value}
+use Rattle.gw_meaning.specs.Parameters.{parameter_at, values_at}
 use Rattle.gw_expr.specs.declared.attribute.Subject.{Subject}
 use Rattle.gw_expr.specs.declared.attribute.Subject.TheVariants as subjects
 use Rattle.gw_expr.specs.Term.{Term}

@@ -1,7 +1,7 @@
 -- What a RESET and a CLEAR do, in each step from any state. (Manual: RESET and CLEAR.)
 use Rattle.std.specs.Prelude.{◌≡◌, ◌≢◌, ◌≤◌, ◌<◌, ℕ, ℤ, List, [], ◌∷◌, ◌++◌, map, Some, Ok}
 use Rattle.gw_names.specs.declared.key.Key.{Key}
-use Rattle.gw_entities.specs.Levels.{sum_up_to}
+use Rattle.gw_meaning.specs.Levels.{sum_up_to}
 use Rattle.gw_streams.specs.declared.stream.Stream.{Stream}
 use Rattle.gw_meaning.specs.declared.statement.Command.{Command}
 use Rattle.gw_meaning.specs.declared.statement.Command.TheVariants as commands

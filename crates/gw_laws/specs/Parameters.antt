@@ -2,8 +2,8 @@
 use Rattle.std.specs.Prelude.{◌≡◌, ℕ, suc, ◌≤◌, ◌<◌, ℤ, ◌==◌, ◌⊎◌, Bool, true, List, Ok}
 use Rattle.std.specs.List.{list_any}
 use Rattle.gw_names.specs.declared.key.Key.{Key}
-use Rattle.gw_entities.specs.Tables.{with_value}
-use Rattle.gw_entities.specs.Parameters.{values_at}
+use Rattle.gw_meaning.specs.Tables.{with_value}
+use Rattle.gw_meaning.specs.Parameters.{values_at}
 use Rattle.gw_meaning.specs.Listing.{Listing}
 use Rattle.gw_meaning.specs.Machine.{Machine}
 use Rattle.gw_meaning.specs.Step.{run}

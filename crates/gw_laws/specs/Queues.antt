@@ -1,7 +1,7 @@
 -- The queues, over every run from zero. (Our own: the limit of 1,000,000,000, at which a run stops.)
 use Rattle.std.specs.Prelude.{◌≡◌, ℕ, ◌≤◌, Ok, All}
 use Rattle.gw_names.specs.declared.key.Key.{Key}
-use Rattle.gw_entities.specs.Records.{Line}
+use Rattle.gw_meaning.specs.Records.{Line}
 use Rattle.gw_meaning.specs.Listing.{Listing}
 use Rattle.gw_meaning.specs.Machine.{Machine}
 use Rattle.gw_meaning.specs.Step.{run}

@@ -3,7 +3,7 @@
 use Rattle.std.specs.Prelude.{◌≡◌, ℕ, ◌+◌, ◌≤◌, ◌<◌, List, Ok, All}
 use Rattle.gw_names.specs.declared.key.Key.{Key}
 use Rattle.gw_names.specs.declared.key.Key.TheVariants as keys
-use Rattle.gw_entities.specs.Records.{Store}
+use Rattle.gw_meaning.specs.Records.{Store}
 use Rattle.gw_meaning.specs.declared.transaction.Transaction.{Transaction}
 use Rattle.gw_meaning.specs.Entities.{Entities, store_at}
 use Rattle.gw_meaning.specs.Listing.{Listing, capacity_at}

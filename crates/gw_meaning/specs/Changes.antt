@@ -12,8 +12,8 @@ use Rattle.gw_streams.specs.declared.stream.Stream.{Stream}
 use Rattle.gw_names.specs.declared.key.Key.{Key}
 use Rattle.gw_expr.specs.declared.expr.Discipline.{Discipline}
 use Rattle.gw_expr.specs.declared.expr.Discipline.TheVariants as disciplines
-use Rattle.gw_entities.specs.Tables.{with_value}
-use Rattle.gw_entities.specs.Parameters.{assigned, inherited, values_at, without}
+use Rattle.gw_meaning.specs.Tables.{with_value}
+use Rattle.gw_meaning.specs.Parameters.{assigned, inherited, values_at, without}
 use Rattle.gw_meaning.specs.declared.entity_change.Update.{Update}
 use Rattle.gw_meaning.specs.declared.entity_change.Update.TheVariants as updates
 use Rattle.gw_meaning.specs.declared.entity_change.FacilityUpdate.TheVariants as of_facility

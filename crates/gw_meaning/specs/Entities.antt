@@ -3,9 +3,9 @@
 -- table keeps its values, so that its classes are counted when a report is printed.)
 use Rattle.std.specs.Prelude.{ℕ, ℤ, Bool, false, ◌==◌, List, [], ◌∷◌, ◌++◌, Option, Some, None, if◌then◌else◌, unwrap_or, map}
 use Rattle.gw_names.specs.declared.key.Key.{Key}
-use Rattle.gw_entities.specs.Records.{Ownership, never_owned, seized, released, facility_anew, Line, no_line, queued, departed, queue_anew, Store, never_used, entered, left, storage_anew}
-use Rattle.gw_entities.specs.Tables.{value_of, with_value}
-use Rattle.gw_entities.specs.QueueArrivals.{with_queue_arrival}
+use Rattle.gw_meaning.specs.Records.{Ownership, never_owned, seized, released, facility_anew, Line, no_line, queued, departed, queue_anew, Store, never_used, entered, left, storage_anew}
+use Rattle.gw_meaning.specs.Tables.{value_of, with_value}
+use Rattle.gw_meaning.specs.QueueArrivals.{with_queue_arrival}
 use Rattle.gw_meaning.specs.declared.entity_change.Update.{Update}
 use Rattle.gw_meaning.specs.declared.entity_change.Update.TheVariants as updates
 use Rattle.gw_meaning.specs.declared.entity_change.FacilityUpdate.{FacilityUpdate}

@@ -4,6 +4,11 @@ pub mod Texts
 pub mod Classes
 pub mod Listing
 pub mod Numbers
+pub mod Levels
+pub mod Records
+pub mod Tables
+pub mod Parameters
+pub mod QueueArrivals
 pub mod Entities
 pub mod Watching
 pub mod Machine

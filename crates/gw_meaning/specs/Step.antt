@@ -51,9 +51,9 @@ use Rattle.gw_meaning.specs.declared.moves.Move.TheVariants as moves
 use Rattle.gw_meaning.specs.Statements.{A, B, C, D, E, operand, is_generate_verb}
 use Rattle.gw_meaning.specs.Listing.{Listing}
 use Rattle.gw_meaning.specs.Machine.{Machine, zero_state, raised, live, count_at, delay_at, user_chain_at}
-use Rattle.gw_entities.specs.Records.{Line, Store, capped}
-use Rattle.gw_entities.specs.QueueArrivals.{came}
-use Rattle.gw_entities.specs.Parameters.{parameter_at}
+use Rattle.gw_meaning.specs.Records.{Line, Store, capped}
+use Rattle.gw_meaning.specs.QueueArrivals.{came}
+use Rattle.gw_meaning.specs.Parameters.{parameter_at}
 use Rattle.gw_meaning.specs.Entities.{facility_at, line_at, store_at, savevalue_at, switch_at}
 use Rattle.gw_meaning.specs.Questions.{Prog, Gives, result_of, items_of, ◌>>=◌}
 use Rattle.gw_meaning.specs.Evaluation.{Eval, gives, ends_with, asks, ◌~>◌, stops_if, value_prog, value_or_zero, value_there, entity_prog, units_prog, value_traced, entity_traced, arithmetic, millionths, draw, time_prog}

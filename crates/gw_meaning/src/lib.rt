@@ -1,7 +1,8 @@
 //! What the language means: statements, a version's answers, the state, the questions of a step, the run.
 //!
 //! The definitions stand in `specs/`, in this order: Statements and Texts (verbs, how a statement is listed), Classes
-//! (those of a TABLE), Listing and Numbers (what a version says), Places, Entities, Watching and Machine (the state),
+//! (those of a TABLE), Listing and Numbers (what a version says), Places, Levels, Records, Tables, Parameters and
+//! QueueArrivals (what is kept of entities and transactions), Entities, Watching and Machine (the state),
 //! Questions (what a step may ask), Evaluation (values and draws), Changes (what a move does to a state, and whom it
 //! wakes), Step (which move it is, and the run), Reads (what a run read), Point (where a report is taken). The types
 //! here are the plain data that they speak of.

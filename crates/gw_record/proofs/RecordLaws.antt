@@ -10,7 +10,7 @@ use Rattle.gw_meaning.specs.declared.moves.Move.{Move}
 use Rattle.gw_meaning.specs.declared.moves.Move.TheVariants as moves
 use Rattle.gw_meaning.specs.declared.transaction.Transaction.{Transaction}
 use Rattle.gw_meaning.specs.Listing.{Listing}
-use Rattle.gw_entities.specs.Parameters.{values_at}
+use Rattle.gw_meaning.specs.Parameters.{values_at}
 use Rattle.gw_meaning.specs.Machine.{Machine, raised, delay_at, user_chain_at}
 use Rattle.gw_streams.specs.declared.stream.Stream.{Stream}
 use Rattle.gw_names.specs.declared.key.Key.{Key}

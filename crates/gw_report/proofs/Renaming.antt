@@ -5,8 +5,8 @@ use Rattle.std.specs.List.{flat_map}
 use Rattle.std.proofs.lemmas.List.{length-map}
 use Rattle.gw_names.specs.declared.key.Key.{Key}
 use Rattle.gw_names.specs.declared.key.Key.TheVariants as keys
-use Rattle.gw_entities.specs.Levels.{sum_up_to}
-use Rattle.gw_entities.specs.Records.{Ownership, Line, Store}
+use Rattle.gw_meaning.specs.Levels.{sum_up_to}
+use Rattle.gw_meaning.specs.Records.{Ownership, Line, Store}
 use Rattle.gw_meaning.specs.declared.statement.Block.{Block}
 use Rattle.gw_meaning.specs.declared.statement.Statement.{Statement}
 use Rattle.gw_meaning.specs.declared.statement.Numbered.{Numbered}

@@ -1,8 +1,8 @@
 -- The lines of queues: what each holds and counted, and its averages. (Manual.)
 use Rattle.std.specs.Prelude.{ℕ, ◌-◌, List, [], ◌∷◌, map, decimal, codes}
 use Rattle.gw_names.specs.declared.key.Key.{Key}
-use Rattle.gw_entities.specs.Levels.{sum_up_to}
-use Rattle.gw_entities.specs.Records.{Line}
+use Rattle.gw_meaning.specs.Levels.{sum_up_to}
+use Rattle.gw_meaning.specs.Records.{Line}
 use Rattle.gw_meaning.specs.declared.watched.EntityKind.TheVariants as kinds
 use Rattle.gw_meaning.specs.declared.watched.Watched.TheVariants as watched
 use Rattle.gw_meaning.specs.Changes.{retries}

@@ -2,8 +2,8 @@
 -- wait for it. (Manual; AVL. is 1.)
 use Rattle.std.specs.Prelude.{ℕ, ◌-◌, ◌*◌, List, [], ◌∷◌, map, length, decimal, codes}
 use Rattle.gw_names.specs.declared.key.Key.{Key}
-use Rattle.gw_entities.specs.Levels.{sum_up_to}
-use Rattle.gw_entities.specs.Records.{Store}
+use Rattle.gw_meaning.specs.Levels.{sum_up_to}
+use Rattle.gw_meaning.specs.Records.{Store}
 use Rattle.gw_meaning.specs.declared.watched.EntityKind.TheVariants as kinds
 use Rattle.gw_meaning.specs.declared.watched.Watched.TheVariants as watched
 use Rattle.gw_meaning.specs.Changes.{retries}

@@ -7,7 +7,7 @@ use Rattle.gw_meaning.specs.declared.moves.Change.TheVariants as changes
 use Rattle.gw_meaning.specs.declared.moves.Fate.{Fate}
 use Rattle.gw_meaning.specs.declared.moves.Fate.TheVariants as fates
 use Rattle.gw_meaning.specs.declared.watched.Watched.{Watched}
-use Rattle.gw_entities.specs.Parameters.{Held, values_at, inherited, all_inherited}
+use Rattle.gw_meaning.specs.Parameters.{Held, values_at, inherited, all_inherited}
 use Rattle.gw_meaning.specs.Watching.{Waiter}
 use Rattle.gw_state.specs.declared.parts.Parts.{Parts}
 use Rattle.gw_state.specs.Making.{HasEntered}

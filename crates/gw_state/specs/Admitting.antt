@@ -1,7 +1,7 @@
 -- Room for those whom an update lets in. (Our own.)
 use Rattle.std.specs.Prelude.{ℕ, ◌≤◌, List, length}
 use Rattle.gw_names.specs.declared.key.Key.{Key}
-use Rattle.gw_entities.specs.Tables.{value_of}
+use Rattle.gw_meaning.specs.Tables.{value_of}
 use Rattle.gw_meaning.specs.declared.entity_change.Update.{Update}
 use Rattle.gw_meaning.specs.declared.entity_change.Update.TheVariants as updates
 use Rattle.gw_meaning.specs.declared.entity_change.StorageUpdate.TheVariants as of_storage

@@ -1,8 +1,8 @@
 -- What a contract sees of the parts of a state. (Our own.)
 use Rattle.std.specs.Prelude.{ℕ, ℤ, Bool, List}
 use Rattle.gw_names.specs.declared.key.Key.{Key}
-use Rattle.gw_entities.specs.Records.{Ownership, Line, Store}
-use Rattle.gw_entities.specs.QueueArrivals.{Arrivals}
+use Rattle.gw_meaning.specs.Records.{Ownership, Line, Store}
+use Rattle.gw_entities.specs.Keeping.{Arrivals}
 use Rattle.gw_meaning.specs.Entities.{Entities}
 
 -- the clocks

@@ -1,9 +1,9 @@
 // The entities of a run.
 ghost use Rattle.std.specs.Prelude.{◌≡◌, IfOk, OnOk, OnErr};
 ghost use Rattle.gw_names.specs.declared.key.Key.{Key as Name};
-ghost use Rattle.gw_entities.specs.QueueArrivals.{came};
-ghost use Rattle.gw_entities.specs.Records.{entered, left};
-ghost use Rattle.gw_entities.specs.Tables.{with_value};
+ghost use Rattle.gw_meaning.specs.QueueArrivals.{came};
+ghost use Rattle.gw_meaning.specs.Records.{entered, left};
+ghost use Rattle.gw_meaning.specs.Tables.{with_value};
 ghost use Rattle.gw_meaning.specs.declared.entity_change.Update.TheVariants as updates;
 ghost use Rattle.gw_meaning.specs.Entities.{no_entities, facility_at, line_at, store_at, savevalue_at, switch_at, done, all_entered, entities_anew, later};
 ghost use Rattle.gw_state.specs.Parts.{entities_of};

@@ -1,6 +1,6 @@
 // Who is let in after a RELEASE or a LEAVE: room for them first, then the change, which cannot fail.
 ghost use Rattle.std.specs.Prelude.{◌≡◌, ◌+◌, ◌-◌, ◌<◌, ◌≤◌, [], ◌∷◌, Some, length, IfOk, OnOk};
-ghost use Rattle.gw_entities.specs.Tables.{value_of};
+ghost use Rattle.gw_meaning.specs.Tables.{value_of};
 ghost use Rattle.gw_meaning.specs.Machine.{delay_at};
 ghost use Rattle.gw_meaning.specs.Changes.{some_let_in, admitted};
 ghost use Rattle.gw_chains.specs.Chains.{delays_of, room_of, first_of, with_grant, IsWithin, AreWithin, HasRoomToLetIn, HasRoomToLetAllIn};

@@ -1,10 +1,7 @@
 -- SPLIT and UNLINK by how many come of them.
 use Rattle.std.proofs.Common.{◌≡◌, ℕ, zero, suc, List, Option, Some, None, refl}
 use Rattle.gw_names.specs.declared.key.Key.{Key}
-use Rattle.gw_names.specs.declared.name.Name.{Name}
-use Rattle.gw_expr.specs.Term.{Term, Label, term_of}
-use Rattle.gw_expr.specs.declared.expr.Node.{Node}
-use Rattle.gw_expr.specs.declared.expr.Node.TheVariants as node
+use Rattle.gw_expr.specs.Term.{Term, Value, Computed, Named, Label, Fraction, Defined, Table, Order}
 use Rattle.gw_meaning.specs.declared.item.Asked.TheVariants as asking
 use Rattle.gw_meaning.specs.declared.item.Item.TheVariants as items
 use Rattle.gw_meaning.specs.Evaluation.{asks}
@@ -30,14 +27,14 @@ pub unlink_away : (id : ℕ) (key : Key) (name : List ℕ) (count : ℕ) → (co
 unlink_away id key name zero some = absurd (some refl)
 unlink_away id key name (suc n) some = refl
 
-pub split_else : (id : ℕ) (n : Node) (count : ℕ) → (count ≡ 0 → ⊥) → ((name : Name) → n ≡ node.Label name → ⊥) →
-    split_count id (Some (term_of n)) count ≡ split_into id count None
-split_else id n zero some other = absurd (some refl)
-split_else id (node.Value atom) (suc k) some other = refl
-split_else id (node.Computed tokens) (suc k) some other = refl
-split_else id (node.Named name) (suc k) some other = refl
-split_else id (node.Label name) (suc k) some other = absurd (other name refl)
-split_else id (node.Fraction millionths) (suc k) some other = refl
-split_else id (node.Defined name) (suc k) some other = refl
-split_else id (node.Table name) (suc k) some other = refl
-split_else id (node.Order discipline) (suc k) some other = refl
+pub split_else : (id : ℕ) (term : Term) (count : ℕ) → (count ≡ 0 → ⊥) → ((name : List ℕ) → term ≡ Label name → ⊥) →
+    split_count id (Some term) count ≡ split_into id count None
+split_else id term zero some other = absurd (some refl)
+split_else id (Value atom) (suc k) some other = refl
+split_else id (Computed tokens) (suc k) some other = refl
+split_else id (Named name) (suc k) some other = refl
+split_else id (Label name) (suc k) some other = absurd (other name refl)
+split_else id (Fraction millionths) (suc k) some other = refl
+split_else id (Defined name) (suc k) some other = refl
+split_else id (Table name) (suc k) some other = refl
+split_else id (Order discipline) (suc k) some other = refl

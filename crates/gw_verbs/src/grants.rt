@@ -1,7 +1,7 @@
 // The grants of a LEAVE: who of a delay chain is let in, and with how many units.
 ghost use Rattle.std.specs.Prelude.{◌≡◌, [], option_copied};
 ghost use Rattle.gw_chains.specs.Chains.{items_of};
-ghost use Rattle.gw_entities.specs.Records.{capped};
+ghost use Rattle.gw_meaning.specs.Records.{capped};
 ghost use Rattle.gw_meaning.specs.Step.{beside, grant_of, in_use, grants_prog, all_granted};
 ghost use Rattle.gw_asking.specs.Deciding.{Decides};
 

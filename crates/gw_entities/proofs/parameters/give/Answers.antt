@@ -1,7 +1,7 @@
 use Rattle.std.proofs.Common.{◌+◌, ◌<◌, length, refl, sym, ap, ◌∙◌, subst, arith, rules}
 use Rattle.std.proofs.lemmas.Option.{slice_get_read}
 use Rattle.gw_entities.specs.Owned.{AreRising}
-use Rattle.gw_entities.specs.Parameters.{grouped}
+use Rattle.gw_entities.specs.Keeping.{grouped}
 use Rattle.gw_entities.proofs.Inherited.{known_at, given_more}
 use Rattle.gw_entities.proofs.ItemLaws.{some_key, key_read}
 use Rattle.gw_entities.proofs.OwnLaws.{rising_with}

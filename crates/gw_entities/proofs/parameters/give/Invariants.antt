@@ -1,6 +1,7 @@
 use Rattle.std.proofs.Common.{◌≡◌, ◌+◌, ◌≤◌, take}
 use Rattle.gw_entities.specs.Owned.{AreRising, said_by}
-use Rattle.gw_entities.specs.Parameters.{grouped, inherited}
+use Rattle.gw_meaning.specs.Parameters.{inherited}
+use Rattle.gw_entities.specs.Keeping.{grouped}
 use Rattle.gw_entities.proofs.parameters.give.Given as goal
 
 abbrev pub invariant-loop-item : goal.invariant-loop-item

@@ -1,6 +1,7 @@
 use Rattle.std.proofs.Common.{◌≡◌, suc, ◌+◌, ◌-◌, length, sym, ap, ◌∙◌, arith}
 use Rattle.gw_entities.specs.Owned.{said_by}
-use Rattle.gw_entities.specs.Parameters.{all_inherited, grouped, inherited}
+use Rattle.gw_meaning.specs.Parameters.{all_inherited, inherited}
+use Rattle.gw_entities.specs.Keeping.{grouped}
 use Rattle.gw_entities.proofs.Inherited.{room_for_one, room_for_rest}
 use Rattle.gw_entities.proofs.parameters.give_all.Goals as goal
 

@@ -1,6 +1,7 @@
 use Rattle.std.proofs.Common.{◌≡◌, ◌*◌, ◌≤◌, ◌-◌, length}
 use Rattle.gw_entities.specs.Owned.{AreRising, said_by}
-use Rattle.gw_entities.specs.Parameters.{grouped, all_inherited}
+use Rattle.gw_meaning.specs.Parameters.{all_inherited}
+use Rattle.gw_entities.specs.Keeping.{grouped}
 use Rattle.gw_entities.proofs.parameters.give_all.Given as goal
 
 abbrev pub invariant-loop-copy : goal.invariant-loop-copy

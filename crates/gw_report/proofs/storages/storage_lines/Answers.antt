@@ -1,6 +1,6 @@
 use Rattle.std.proofs.Common.{◌≡◌, ◌++◌, sym, arith, rules}
 use Rattle.gw_names.specs.declared.key.Key.{Key}
-use Rattle.gw_entities.specs.Records.{Store}
+use Rattle.gw_meaning.specs.Records.{Store}
 use Rattle.gw_report.specs.Layout.{row_of}
 use Rattle.gw_report.specs.Storages.{storage_columns, storage_line}
 use Rattle.gw_report.proofs.Rows.{none_left}

@@ -1,7 +1,7 @@
 use Rattle.std.proofs.Common.{◌≡◌, ℤ, option_copied, rules}
 use Rattle.gw_names.specs.declared.key.Key.{Key}
 use Rattle.gw_meaning.specs.declared.moves.Move.{Move}
-use Rattle.gw_entities.specs.Parameters.{parameter_at}
+use Rattle.gw_meaning.specs.Parameters.{parameter_at}
 use Rattle.gw_meaning.specs.Evaluation.{Eval, entity_prog, value_there, ◌~>◌}
 use Rattle.gw_meaning.specs.Step.{assign_with}
 use Rattle.gw_asking.specs.Deciding.{Comes}

@@ -1,7 +1,7 @@
 use Rattle.std.proofs.Common.{◌≡◌, ℕ, option_copied, rules}
 use Rattle.gw_names.specs.declared.key.Key.{Key}
 use Rattle.gw_meaning.specs.declared.moves.Move.{Move}
-use Rattle.gw_entities.specs.QueueArrivals.{came}
+use Rattle.gw_meaning.specs.QueueArrivals.{came}
 use Rattle.gw_meaning.specs.Entities.{line_at}
 use Rattle.gw_meaning.specs.Evaluation.{Eval, entity_prog, units_prog, ◌~>◌}
 use Rattle.gw_meaning.specs.Step.{depart_units}

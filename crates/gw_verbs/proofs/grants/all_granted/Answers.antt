@@ -1,6 +1,6 @@
 use Rattle.std.proofs.Common.{◌≡◌, ◌+◌, [], drop, sym, ap, ◌∙◌, arith}
 use Rattle.std.proofs.lemmas.List.{drop_all}
-use Rattle.gw_entities.specs.Records.{capped}
+use Rattle.gw_meaning.specs.Records.{capped}
 use Rattle.gw_meaning.specs.Step.{all_granted}
 use Rattle.gw_verbs.proofs.grants.all_granted.Goals as goal
 

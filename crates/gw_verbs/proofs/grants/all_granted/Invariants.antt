@@ -1,5 +1,5 @@
 use Rattle.std.proofs.Common.{◌≡◌, ◌+◌, ◌-◌, ◌≤◌, ◌^◌, drop}
-use Rattle.gw_entities.specs.Records.{capped}
+use Rattle.gw_meaning.specs.Records.{capped}
 use Rattle.gw_meaning.specs.Step.{all_granted}
 use Rattle.gw_verbs.proofs.grants.all_granted.Given as goal
 

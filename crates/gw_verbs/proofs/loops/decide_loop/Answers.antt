@@ -1,7 +1,7 @@
 use Rattle.std.proofs.Common.{◌≡◌, ℤ, Option, option_copied, rules}
 use Rattle.gw_names.specs.declared.key.Key.{Key}
 use Rattle.gw_meaning.specs.declared.moves.Move.{Move}
-use Rattle.gw_entities.specs.Parameters.{parameter_at}
+use Rattle.gw_meaning.specs.Parameters.{parameter_at}
 use Rattle.gw_meaning.specs.Evaluation.{Eval, entity_prog, ◌~>◌}
 use Rattle.gw_meaning.specs.Step.{left_of, loop_with}
 use Rattle.gw_asking.specs.Deciding.{Comes}

@@ -1,5 +1,5 @@
 use Rattle.std.proofs.Common.{◌-◌, [], length, option_map, sym, ap, ◌∙◌, arith, rules}
-use Rattle.gw_entities.specs.Tables.{with_value}
+use Rattle.gw_meaning.specs.Tables.{with_value}
 use Rattle.gw_meaning.specs.Machine.{Machine}
 use Rattle.gw_chains.specs.Chains.{delays_of, without_grant}
 use Rattle.gw_chains.specs.Delays.{chains_of}

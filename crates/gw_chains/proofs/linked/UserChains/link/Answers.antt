@@ -1,6 +1,6 @@
 use Rattle.std.proofs.Common.{◌≡◌, ◌<◌, length, sym, ap, subst, ◌∙◌, rules}
 use Rattle.std.specs.List.{zip}
-use Rattle.gw_entities.specs.Tables.{with_value, IsPlace}
+use Rattle.gw_meaning.specs.Tables.{with_value, IsPlace}
 use Rattle.gw_meaning.specs.Changes.{linked_to}
 use Rattle.gw_meaning.specs.Machine.{members_of, user_chain_at, waiting}
 use Rattle.gw_entities.proofs.Keyed.{within_beside}

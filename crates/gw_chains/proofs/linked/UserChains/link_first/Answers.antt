@@ -2,7 +2,7 @@ use Rattle.std.proofs.Common.{◌≡◌, ◌+◌, ◌++◌, ◌∷◌, [], None,
 use Rattle.std.specs.List.{zip}
 use Rattle.indexmap.specs.IndexSet.{insert_key}
 use Rattle.gw_names.specs.Keys.{key_eq}
-use Rattle.gw_entities.specs.Tables.{value_of}
+use Rattle.gw_meaning.specs.Tables.{value_of}
 use Rattle.gw_meaning.specs.Changes.{linked_to}
 use Rattle.gw_meaning.specs.Machine.{no_chain, user_chain_at}
 use Rattle.gw_chains.proofs.LinkedLaws.{Begun, begun, one_more}

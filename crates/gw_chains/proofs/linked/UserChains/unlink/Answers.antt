@@ -1,6 +1,6 @@
 use Rattle.std.proofs.Common.{◌≡◌, ◌-◌, ◌<◌, drop, length, sym, ap, ap₂, subst, ◌∙◌, arith, rules}
 use Rattle.std.specs.List.{zip}
-use Rattle.gw_entities.specs.Tables.{with_value, IsPlace}
+use Rattle.gw_meaning.specs.Tables.{with_value, IsPlace}
 use Rattle.gw_meaning.specs.Machine.{Machine, UserChain, members_of, user_chain_at, waiting}
 use Rattle.gw_entities.proofs.Keyed.{value_there, within_beside}
 use Rattle.gw_chains.proofs.LinkedLaws.{chain_there, fewer, some_unlinked_is, written_chain, written_linked}

@@ -1,6 +1,6 @@
 use Rattle.std.proofs.Common.{◌≡◌, ap, sym, subst, ◌∙◌}
 use Rattle.gw_entities.specs.Owned.{with_own, AreRising}
-use Rattle.gw_entities.specs.Parameters.{grouped}
+use Rattle.gw_entities.specs.Keeping.{grouped}
 use Rattle.gw_entities.proofs.OwnLaws.{rising_with}
 use Rattle.gw_entities.proofs.ParameterLaws.{assigned_is}
 use Rattle.gw_entities.proofs.parameters.Parameters.assign.Goals as goal

@@ -1,6 +1,6 @@
 use Rattle.std.proofs.Common.{ap, sym, subst, ◌∙◌}
 use Rattle.gw_entities.specs.Owned.{AreRising}
-use Rattle.gw_entities.specs.Parameters.{grouped}
+use Rattle.gw_entities.specs.Keeping.{grouped}
 use Rattle.gw_entities.proofs.OwnLaws.{rising_without}
 use Rattle.gw_entities.proofs.ParameterLaws.{forgotten_is}
 use Rattle.gw_entities.proofs.parameters.Parameters.forget.Goals as goal

@@ -1,6 +1,7 @@
 use Rattle.std.proofs.Common.{◌≡◌, ap, sym, ◌∙◌}
 use Rattle.gw_entities.specs.Owned.{all_of, said_by}
-use Rattle.gw_entities.specs.Parameters.{all_inherited, grouped, values_at}
+use Rattle.gw_meaning.specs.Parameters.{all_inherited, values_at}
+use Rattle.gw_entities.specs.Keeping.{grouped}
 use Rattle.gw_entities.proofs.ParameterLaws.{values_grouped}
 use Rattle.gw_entities.proofs.parameters.Parameters.inherit.Goals as goal
 

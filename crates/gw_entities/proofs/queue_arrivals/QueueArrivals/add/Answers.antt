@@ -1,5 +1,6 @@
 use Rattle.std.proofs.Common.{map, ap, sym, subst, ◌∙◌}
-use Rattle.gw_entities.specs.QueueArrivals.{queue_arrival_of, AreOnce}
+use Rattle.gw_meaning.specs.QueueArrivals.{AreOnce}
+use Rattle.gw_entities.specs.Keeping.{queue_arrival_of}
 use Rattle.gw_entities.specs.Owned.{AreRising}
 use Rattle.gw_entities.proofs.QueueArrivalLaws.{with_queue_arrival_is, once_with}
 use Rattle.gw_entities.proofs.ItemLaws.{some_key}

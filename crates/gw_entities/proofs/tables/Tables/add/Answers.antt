@@ -1,6 +1,6 @@
 use Rattle.std.proofs.Common.{◌≡◌, ◌<◌, ◌++◌, ◌∷◌, [], length, ap, subst, ◌∙◌, arith, rules}
 use Rattle.std.specs.List.{zip}
-use Rattle.gw_entities.specs.Tables.{with_value, IsPlace}
+use Rattle.gw_meaning.specs.Tables.{with_value, IsPlace}
 use Rattle.gw_entities.proofs.Keyed.{set_beside, value_there, within_beside}
 use Rattle.gw_entities.proofs.TableLaws.{set_value_is}
 use Rattle.gw_entities.proofs.tables.Tables.add.Goals as goal

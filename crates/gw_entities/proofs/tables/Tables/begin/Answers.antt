@@ -3,7 +3,7 @@ use Rattle.std.proofs.lemmas.List.{length-append}
 use Rattle.std.specs.List.{zip}
 use Rattle.indexmap.specs.IndexSet.{insert_key}
 use Rattle.gw_names.specs.Keys.{key_eq}
-use Rattle.gw_entities.specs.Tables.{value_of}
+use Rattle.gw_meaning.specs.Tables.{value_of}
 use Rattle.gw_entities.proofs.Entries.{pushed_is}
 use Rattle.gw_entities.proofs.Keyed.{no_key_beside, zip_more, apart_beside}
 use Rattle.gw_entities.proofs.tables.Tables.begin.Goals as goal

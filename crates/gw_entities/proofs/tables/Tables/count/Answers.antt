@@ -1,6 +1,6 @@
 use Rattle.std.proofs.Common.{◌<◌, [], length, unwrap_or, sym, ap, subst, ◌∙◌, rules}
 use Rattle.std.specs.List.{zip}
-use Rattle.gw_entities.specs.Tables.{IsPlace}
+use Rattle.gw_meaning.specs.Tables.{IsPlace}
 use Rattle.gw_entities.proofs.Keyed.{value_there, within_beside}
 use Rattle.gw_entities.proofs.tables.Tables.count.Goals as goal
 

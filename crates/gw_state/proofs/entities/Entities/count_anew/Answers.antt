@@ -1,5 +1,5 @@
 use Rattle.std.proofs.Common.{◌≡◌, [], ℤ, List}
-use Rattle.gw_entities.specs.Records.{facility_anew, queue_anew, storage_anew}
+use Rattle.gw_meaning.specs.Records.{facility_anew, queue_anew, storage_anew}
 use Rattle.gw_meaning.specs.Entities.{Entities, all_anew}
 use Rattle.gw_state.proofs.entities.Entities.count_anew.Goals as goal
 

@@ -3,7 +3,7 @@ use Rattle.gw_meaning.specs.declared.moves.Change.TheVariants as changes
 use Rattle.gw_meaning.specs.declared.moves.Fate.TheVariants as fates
 use Rattle.gw_meaning.specs.Changes.{placed, crossed, all_copied, entering, woken}
 use Rattle.gw_meaning.specs.Machine.{Machine}
-use Rattle.gw_entities.specs.Parameters.{values_at, all_inherited}
+use Rattle.gw_meaning.specs.Parameters.{values_at, all_inherited}
 use Rattle.gw_state.specs.declared.parts.Parts.{Parts}
 use Rattle.gw_state.specs.States.{machine_of}
 use Rattle.gw_state.proofs.Quiet.{not_entered}

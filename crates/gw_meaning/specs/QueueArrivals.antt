@@ -3,16 +3,6 @@
 use Rattle.std.specs.Prelude.{◌≡◌, ℕ, Bool, false, ◌&&◌, ◌||◌, nat_eq, nat_lt, List, [], ◌∷◌, if◌then◌else◌}
 use Rattle.gw_names.specs.declared.key.Key.{Key}
 use Rattle.gw_names.specs.Keys.{key_eq}
-use Rattle.gw_entities.specs.Owned.{Entry}
-
--- what a contract sees of `QueueArrivals`
-pub record Arrivals : Type 0 where
-  -- the queue, and the number of the transaction
-  pub queue_arrivals : List (Key × ℕ)
-  -- the queues to which one may come
-  pub keys : List Key
-  -- for how many more there is room
-  pub room : ℕ
 
 -- whether a transaction came to a queue
 abbrev pub came : List (Key × ℕ) → Key → ℕ → Bool
@@ -30,7 +20,3 @@ with_queue_arrival [] key number = (key, number) ∷ []
 with_queue_arrival (c ∷ cs) key number =
     if nat_lt number c.1 then (key, number) ∷ c ∷ cs
     else if key_eq key c.0 && nat_eq number c.1 then c ∷ cs else c ∷ with_queue_arrival cs key number
-
--- how `QueueArrivals` keeps one
-abbrev pub queue_arrival_of : {V : Type 0} → Entry V → Key × ℕ
-queue_arrival_of e = (e.1.0, e.0)

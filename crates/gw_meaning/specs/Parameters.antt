@@ -3,8 +3,7 @@
 use Rattle.std.specs.Prelude.{ℕ, zero, suc, ◌+◌, ◌-◌, ◌^◌, min, ℤ, not, nat_eq, nat_lt, List, [], ◌∷◌, Option, filter, if◌then◌else◌, unwrap_or}
 use Rattle.std.specs.Map.{lookup}
 use Rattle.gw_names.specs.declared.key.Key.{Key}
-use Rattle.gw_entities.specs.Tables.{value_of, with_value}
-use Rattle.gw_entities.specs.Owned.{Entry}
+use Rattle.gw_meaning.specs.Tables.{value_of, with_value}
 
 abbrev pub Held : Type 0
 Held = List (ℕ × List (Key × ℤ))
@@ -42,12 +41,3 @@ abbrev pub all_inherited : ℕ → List (Key × ℤ) → ℕ → Held → Held
 all_inherited zero values number held = held
 all_inherited (suc n) values number held =
     all_inherited n values (min (number + 1) (2 ^ 64 - 1)) (inherited values number held)
-
--- How `Parameters` keeps them, with a number for each: those of one transaction are put together.
-abbrev pub with_first : Entry ℤ → Held → Held
-with_first e [] = (e.0, e.1 ∷ []) ∷ []
-with_first e (h ∷ hs) = if nat_eq e.0 h.0 then (h.0, e.1 ∷ h.1) ∷ hs else (e.0, e.1 ∷ []) ∷ h ∷ hs
-
-abbrev pub grouped : List (Entry ℤ) → Held
-grouped [] = []
-grouped (e ∷ es) = with_first e (grouped es)

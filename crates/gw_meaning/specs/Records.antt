@@ -1,7 +1,7 @@
 -- What facilities, queues and storages keep, and what a block that is entered does to it. (Manual; that a count stays
 -- at its greatest value is our own.)
 use Rattle.std.specs.Prelude.{ℕ, ◌+◌, ◌-◌, ◌^◌, Bool, Option, Some, None, if◌then◌else◌, min, max}
-use Rattle.gw_entities.specs.Levels.{Course, at_first, changed, restarted}
+use Rattle.gw_meaning.specs.Levels.{Course, at_first, changed, restarted}
 
 -- a count of 64 bits: it stays at its greatest value
 abbrev pub capped : ℕ → ℕ

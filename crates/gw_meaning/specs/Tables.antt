@@ -1,4 +1,4 @@
--- Keys and values in order of first touch: what a contract sees of `ByKey`. (Our own: the order.)
+-- Keys and values, in order of first touch. (Our own: the order.)
 use Rattle.std.specs.Prelude.{◌≡◌, ℕ, List, [], ◌∷◌, Option, Some, None, if◌then◌else◌, slice_get}
 use Rattle.std.specs.List.{IsDistinct}
 use Rattle.std.specs.Map.{lookup, keys_of}
