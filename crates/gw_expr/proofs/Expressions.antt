@@ -3,7 +3,7 @@ use Rattle.std.proofs.Common.{◌≡◌, ℤ, List, [], ◌∷◌, ◌++◌, ref
 use Rattle.gw_expr.specs.declared.token.Token.{Token}
 use Rattle.gw_expr.specs.Evaluation.{Reply, Evaluation, Yields, Stops, Wants, ◌⟫◌, Definitions, after_tokens, DEEPEST, value_by, definitions_within, value_of, value_of_expression}
 use Rattle.gw_expr.specs.Expressions.{Expression, Single, Opposite, Both, postfix}
-use Rattle.gw_expr.specs.Term.{Computed}
+use Rattle.gw_expr.specs.declared.expr.Expr.TheVariants.{Computed}
 
 -- one evaluation, then another, then a third
 pub then_assoc : {A B C : Type 0} (p : Evaluation A) (f : A → Evaluation B) (g : B → Evaluation C) → ((p ⟫ f) ⟫ g) ≡ (p ⟫ (λ a. f a ⟫ g))

@@ -20,7 +20,8 @@ use Rattle.gw_expr.specs.declared.token.Token.TheVariants as tokens
 use Rattle.gw_expr.specs.Arithmetic.{applied}
 use Rattle.gw_expr.specs.Expressions.{Expression, Single, Opposite, Both}
 use Rattle.gw_expr.specs.Functions.{curve}
-use Rattle.gw_expr.specs.Term.{Term, Value, Computed}
+use Rattle.gw_expr.specs.Term.{Term}
+use Rattle.gw_expr.specs.declared.expr.Expr.TheVariants.{Value, Computed}
 
 -- what may be asked for: the number that a name stands for; an attribute other than that of a VARIABLE or of a
 -- FUNCTION; a random number as a part of a million; the expression of a VARIABLE; a FUNCTION

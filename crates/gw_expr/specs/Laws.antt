@@ -8,7 +8,7 @@ use Rattle.gw_expr.specs.declared.stop.Stop.{Stop}
 use Rattle.gw_expr.specs.Evaluation.{Evaluation, Yields, Stops, Definitions, DEEPEST, value_by, definitions_within, value_of, value_of_expression}
 use Rattle.gw_expr.specs.Expressions.{Expression, Single, Opposite, Both, postfix}
 use Rattle.gw_expr.specs.Functions.{curve}
-use Rattle.gw_expr.specs.Term.{Computed}
+use Rattle.gw_expr.specs.declared.expr.Expr.TheVariants.{Computed}
 
 -- an expression that is kept in postfix order has the value of the expression, by the same questions
 abbrev pub ExpressionsHaveTheirValues : Type 0

@@ -37,7 +37,7 @@ use Rattle.gw_expr.specs.declared.halt.End.TheVariants as ends
 use Rattle.gw_names.specs.declared.verb.BlockVerb.{BlockVerb}
 use Rattle.gw_names.specs.declared.verb.BlockVerb.TheVariants as blocks
 use Rattle.gw_expr.specs.declared.expr.Discipline.{Discipline}
-use Rattle.gw_expr.specs.Term.{Order}
+use Rattle.gw_expr.specs.declared.expr.Expr.TheVariants.{Order}
 use Rattle.gw_frame.specs.BlockIds.{IsBlockId, IsIdIfAny, WatchedNames, ActiveNames, ItemNames}
 use Rattle.gw_names.specs.declared.key.Key.TheVariants as keys
 use Rattle.gw_meaning.specs.Listing.{capacity_at, command_at}

@@ -4,7 +4,8 @@ use Rattle.gw_names.specs.declared.verb.BlockVerb.{BlockVerb}
 use Rattle.gw_names.specs.declared.verb.BlockVerb.TheVariants as blocks
 use Rattle.gw_names.specs.declared.key.Key.TheVariants as keys
 use Rattle.gw_expr.specs.declared.expr.Discipline.TheVariants as disciplines
-use Rattle.gw_expr.specs.Term.{Term, Value, Named, Defined, Table, Order}
+use Rattle.gw_expr.specs.Term.{Term}
+use Rattle.gw_expr.specs.declared.expr.Expr.TheVariants.{Value, Named, Defined, Table, Order}
 use Rattle.gw_expr.specs.Evaluation.{value_of, value_by, value_of_atom}
 use Rattle.gw_expr.specs.declared.atom.Atom.TheVariants as atoms
 use Rattle.gw_meaning.specs.Records.{never_owned, seized, queued, no_line, never_used, entered}

@@ -7,7 +7,8 @@ use Rattle.gw_names.specs.declared.key.Key.{Key}
 use Rattle.gw_names.specs.declared.key.Key.TheVariants as keys
 use Rattle.gw_names.specs.declared.verb.BlockVerb.TheVariants as blocks
 use Rattle.gw_expr.specs.declared.atom.Atom.TheVariants as atoms
-use Rattle.gw_expr.specs.Term.{Term, Value, Named, Defined}
+use Rattle.gw_expr.specs.Term.{Term}
+use Rattle.gw_expr.specs.declared.expr.Expr.TheVariants.{Value, Named, Defined}
 use Rattle.gw_expr.specs.Evaluation.{Question, AttributeOf, PartOf, Reply, Evaluation, Yields, Stops, Wants, value_of}
 use Rattle.gw_names.specs.declared.class.Class.{Class}
 use Rattle.gw_names.specs.declared.class.Class.TheVariants as class

@@ -5,7 +5,8 @@ use Rattle.std.proofs.lemmas.Bool.{and_parts}
 use Rattle.gw_expr.specs.declared.atom.Atom.TheVariants as atoms
 use Rattle.gw_expr.specs.Expressions.{postfix}
 use Rattle.gw_expr.specs.declared.expr.Discipline.TheVariants as disciplines
-use Rattle.gw_expr.specs.Term.{Term, Value, Computed, Defined, Fraction, Label, Named, Order, Table}
+use Rattle.gw_expr.specs.Term.{Term}
+use Rattle.gw_expr.specs.declared.expr.Expr.TheVariants.{Value, Computed, Defined, Fraction, Label, Named, Order, Table}
 use Rattle.gw_expr.specs.declared.function.FunctionType.{FunctionType}
 use Rattle.gw_expr.specs.declared.function.FunctionType.TheVariants as types
 use Rattle.gw_lines.specs.declared.form.Kind.{Kind}

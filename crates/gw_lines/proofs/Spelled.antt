@@ -8,7 +8,8 @@ use Rattle.std.proofs.lemmas.Slice.Eq.{bytes_eq-Decides}
 use Rattle.gw_names.specs.declared.verb.Verb.{Verb}
 use Rattle.gw_names.specs.Names.{name_of}
 use Rattle.gw_expr.specs.declared.atom.Atom.TheVariants as atoms
-use Rattle.gw_expr.specs.Term.{Term, Defined, Fraction, Label, Table}
+use Rattle.gw_expr.specs.Term.{Term}
+use Rattle.gw_expr.specs.declared.expr.Expr.TheVariants.{Defined, Fraction, Label, Table}
 use Rattle.gw_expr.specs.declared.function.FunctionType.{FunctionType}
 use Rattle.gw_expr.specs.declared.function.FunctionType.TheVariants as types
 use Rattle.gw_lines.specs.declared.fault.LineFault.{LineFault}

@@ -6,7 +6,8 @@ use Rattle.gw_expr.specs.declared.token.Operator.{Operator}
 use Rattle.gw_expr.specs.declared.token.Operator.TheVariants as operators
 use Rattle.gw_expr.specs.declared.token.Token.{Token}
 use Rattle.gw_expr.specs.declared.token.Token.TheVariants as tokens
-use Rattle.gw_expr.specs.Term.{Term, Computed}
+use Rattle.gw_expr.specs.Term.{Term}
+use Rattle.gw_expr.specs.declared.expr.Expr.TheVariants.{Computed}
 use Rattle.gw_expr.specs.declared.symbol.Symbol.{Symbol}
 use Rattle.gw_expr.specs.declared.symbol.Symbol.TheVariants as symbols
 use Rattle.gw_expr.specs.Symbols.{symbol_of}

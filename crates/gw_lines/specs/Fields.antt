@@ -4,7 +4,8 @@ use Rattle.gw_names.specs.declared.verb.DefinitionVerb.TheVariants as definition
 use Rattle.gw_names.specs.declared.verb.Verb.{Verb}
 use Rattle.gw_names.specs.declared.verb.Verb.TheVariants as verbs
 use Rattle.gw_expr.specs.declared.atom.Atom.TheVariants as atoms
-use Rattle.gw_expr.specs.Term.{Term, Value}
+use Rattle.gw_expr.specs.Term.{Term}
+use Rattle.gw_expr.specs.declared.expr.Expr.TheVariants.{Value}
 use Rattle.gw_expr.specs.declared.function.FunctionType.{FunctionType}
 use Rattle.gw_meaning.specs.Classes.{Scale, scale_of}
 use Rattle.gw_lines.specs.declared.operand.Operand.{Operand}

@@ -7,7 +7,8 @@ use Rattle.gw_names.specs.Names.{name_of}
 use Rattle.gw_expr.specs.declared.atom.Atom.{Atom}
 use Rattle.gw_expr.specs.declared.atom.Atom.TheVariants as atoms
 use Rattle.gw_expr.specs.declared.expr.Discipline.TheVariants as disciplines
-use Rattle.gw_expr.specs.Term.{Term, Value, Defined, Fraction, Label, Named, Order, Table}
+use Rattle.gw_expr.specs.Term.{Term}
+use Rattle.gw_expr.specs.declared.expr.Expr.TheVariants.{Value, Defined, Fraction, Label, Named, Order, Table}
 use Rattle.gw_expr.specs.declared.function.FunctionType.{FunctionType}
 use Rattle.gw_expr.specs.declared.function.FunctionType.TheVariants as types
 use Rattle.gw_lines.specs.declared.fault.LineFault.{LineFault}

@@ -11,7 +11,8 @@ use Rattle.gw_names.specs.declared.key.Key.TheVariants as keys
 use Rattle.gw_expr.specs.declared.attribute.Subject.{Subject}
 use Rattle.gw_expr.specs.declared.attribute.Subject.TheVariants as subjects
 use Rattle.gw_expr.specs.declared.stop.Stop.TheVariants.{Range}
-use Rattle.gw_expr.specs.Term.{Term, Named}
+use Rattle.gw_expr.specs.Term.{Term}
+use Rattle.gw_expr.specs.declared.expr.Expr.TheVariants.{Named}
 use Rattle.gw_expr.specs.Evaluation.{value_of, Question, NumberOf, AttributeOf, PartOf, VariableOf, FunctionOf, Reply, Evaluation, Yields, Stops, Wants}
 use Rattle.gw_streams.specs.declared.stream.Stream.{Stream}
 use Rattle.gw_expr.specs.declared.halt.End.{End}

@@ -7,7 +7,8 @@ use Rattle.gw_names.specs.declared.verb.BlockVerb.{BlockVerb}
 use Rattle.gw_names.specs.declared.verb.BlockVerb.TheVariants as blocks
 use Rattle.gw_expr.specs.declared.atom.Atom.TheVariants as atoms
 use Rattle.gw_expr.specs.declared.attribute.Subject.TheVariants as subjects
-use Rattle.gw_expr.specs.Term.{Term, Value, Defined, Computed}
+use Rattle.gw_expr.specs.Term.{Term}
+use Rattle.gw_expr.specs.declared.expr.Expr.TheVariants.{Value, Defined, Computed}
 use Rattle.gw_expr.specs.Evaluation as operands
 use Rattle.gw_meaning.specs.Evaluation.{value_prog, watched_prog, attribute_prog}
 use Rattle.gw_streams.specs.declared.stream.Stream.{Stream}

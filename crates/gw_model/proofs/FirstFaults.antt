@@ -16,7 +16,8 @@ use Rattle.gw_expr.specs.declared.token.Token.{Token}
 use Rattle.gw_expr.specs.declared.token.Token.TheVariants as tokens
 use Rattle.gw_expr.specs.declared.attribute.Subject.{Subject}
 use Rattle.gw_expr.specs.declared.attribute.Subject.TheVariants as subjects
-use Rattle.gw_expr.specs.Term.{Term, Value, Computed, Named, Defined, Table, Label, Fraction, Order, HasAtom, holds_of_atom, holds_of_token}
+use Rattle.gw_expr.specs.Term.{Term, HasAtom, holds_of_atom, holds_of_token}
+use Rattle.gw_expr.specs.declared.expr.Expr.TheVariants.{Value, Computed, Named, Defined, Table, Label, Fraction, Order}
 use Rattle.gw_meaning.specs.Listing.{Listing, operands_of, labelled_in, number_of, has_label}
 use Rattle.gw_meaning.specs.Statements.{verb_of_definition}
 use Rattle.gw_meaning.specs.declared.statement.Definition.{Definition}

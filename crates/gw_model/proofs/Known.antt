@@ -5,7 +5,8 @@ use Rattle.std.specs.Prelude.{ℤ, get_or}
 use Rattle.std.specs.List.{list_any, slice_get}
 use Rattle.std.proofs.lemmas.Bool.{cases_Bool}
 use Rattle.std.proofs.lemmas.Option.{get_or_from_slice_get}
-use Rattle.gw_expr.specs.Term.{Term, Value, Computed, Named, Defined, Table, Label, Fraction, Order, HasAtom, holds_of_atom, holds_of_token}
+use Rattle.gw_expr.specs.Term.{Term, HasAtom, holds_of_atom, holds_of_token}
+use Rattle.gw_expr.specs.declared.expr.Expr.TheVariants.{Value, Computed, Named, Defined, Table, Label, Fraction, Order}
 use Rattle.gw_expr.specs.declared.atom.Atom.{Atom}
 use Rattle.gw_expr.specs.declared.atom.Atom.TheVariants as atoms
 use Rattle.gw_expr.specs.declared.token.Token.{Token}

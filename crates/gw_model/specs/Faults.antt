@@ -8,7 +8,8 @@ use Rattle.gw_names.specs.declared.verb.DefinitionVerb.{DefinitionVerb}
 use Rattle.gw_names.specs.declared.verb.DefinitionVerb.TheVariants as definition_verbs
 use Rattle.gw_expr.specs.declared.attribute.Subject.{Subject}
 use Rattle.gw_expr.specs.declared.attribute.Subject.TheVariants as subjects
-use Rattle.gw_expr.specs.Term.{Term, Defined, Table, Label, holds_of_atom}
+use Rattle.gw_expr.specs.Term.{Term, holds_of_atom}
+use Rattle.gw_expr.specs.declared.expr.Expr.TheVariants.{Defined, Table, Label}
 use Rattle.gw_expr.specs.declared.atom.Atom.{Atom}
 use Rattle.gw_expr.specs.declared.atom.Atom.TheVariants as atoms
 use Rattle.gw_meaning.specs.Listing.{Listing, operands_of, defined_in, has_label, labelled_in}

@@ -9,7 +9,8 @@ use Rattle.gw_names.specs.declared.verb.Verb.TheVariants as verbs
 use Rattle.gw_expr.specs.declared.atom.Atom.TheVariants as atoms
 use Rattle.gw_expr.specs.declared.attribute.Subject.{Subject}
 use Rattle.gw_expr.specs.declared.attribute.Subject.TheVariants as subjects
-use Rattle.gw_expr.specs.Term.{Term, Defined, Table, Label, HasAtom}
+use Rattle.gw_expr.specs.Term.{Term, HasAtom}
+use Rattle.gw_expr.specs.declared.expr.Expr.TheVariants.{Defined, Table, Label}
 use Rattle.gw_meaning.specs.Listing.{Listing, operand_of, definition_at, label_at}
 use Rattle.gw_meaning.specs.Statements.{verb_of_definition}
 use Rattle.gw_meaning.specs.declared.statement.Definition.{Definition}

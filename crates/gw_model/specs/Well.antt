@@ -1,6 +1,7 @@
 -- What a version may be, in the subject's own words. (Our own limits.)
 use Rattle.std.specs.Prelude.{ℕ, ℤ, ◌≤◌, ◌<◌, ◌≡◌, ◌≢◌, true, List, Some, length, slice_get}
-use Rattle.gw_expr.specs.Term.{Term, Defined, Table, Label, HasAtom}
+use Rattle.gw_expr.specs.Term.{Term, HasAtom}
+use Rattle.gw_expr.specs.declared.expr.Expr.TheVariants.{Defined, Table, Label}
 use Rattle.gw_expr.specs.declared.atom.Atom.TheVariants as atoms
 use Rattle.gw_names.specs.declared.class.Class.{Class}
 use Rattle.gw_names.specs.declared.verb.DefinitionVerb.{DefinitionVerb}

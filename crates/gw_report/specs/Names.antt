@@ -10,7 +10,8 @@ use Rattle.gw_expr.specs.declared.atom.Atom.{Atom}
 use Rattle.gw_expr.specs.declared.atom.Atom.TheVariants as atoms
 use Rattle.gw_expr.specs.declared.token.Token.{Token}
 use Rattle.gw_expr.specs.declared.token.Token.TheVariants as tokens
-use Rattle.gw_expr.specs.Term.{Term, Value, Computed, Named, Label, Fraction, Defined, Table, Order}
+use Rattle.gw_expr.specs.Term.{Term}
+use Rattle.gw_expr.specs.declared.expr.Expr.TheVariants.{Value, Computed, Named, Label, Fraction, Defined, Table, Order}
 use Rattle.gw_meaning.specs.Listing.{Listing, operands_of, label_at, number_at}
 use Rattle.gw_meaning.specs.declared.statement.Numbered.{Numbered}
 use Rattle.gw_report.specs.declared.column.Side.TheVariants.{Left, Right}

@@ -11,9 +11,6 @@ use Rattle.gw_expr.specs.declared.function.FunctionType.{FunctionType}
 use Rattle.gw_expr.specs.declared.function.Point.{Point}
 use Rattle.gw_expr.specs.declared.function.Function.{Function}
 use Rattle.gw_meaning.specs.declared.auxiliary.Auxiliary.{Auxiliary}
-use Rattle.gw_meaning.specs.declared.auxiliary.Auxiliary.TheVariants as auxiliaries
-use Rattle.gw_meaning.specs.declared.auxiliary.Condition.TheVariants as conditions
-use Rattle.gw_meaning.specs.declared.auxiliary.Switching.TheVariants as switchings
 use Rattle.gw_names.specs.contracts.class.Class as classes
 use Rattle.gw_names.specs.declared.class.Class.{Class}
 use Rattle.gw_expr.specs.contracts.attribute.SubjectPartialEq.TheImpl as subject_comparison
@@ -26,14 +23,15 @@ use Rattle.gw_expr.specs.declared.attribute.Subject.TheVariants as subjects
 use Rattle.gw_names.specs.declared.verb.BlockVerb.{BlockVerb}
 use Rattle.gw_expr.specs.declared.expr.Discipline.{Discipline}
 use Rattle.gw_expr.specs.declared.expr.Discipline.TheVariants as disciplines
-use Rattle.gw_expr.specs.Term.{Term, Value, Computed, Named, Label, Fraction, Defined, Table, Order}
+use Rattle.gw_expr.specs.Term.{Term}
+use Rattle.gw_expr.specs.declared.expr.Expr.TheVariants.{Value, Computed, Named, Label, Fraction, Defined, Table, Order}
 use Rattle.gw_expr.specs.declared.atom.Atom.{Atom}
 use Rattle.gw_expr.specs.declared.token.Token.{Token}
 use Rattle.gw_meaning.specs.declared.statement.Statement.{Statement}
 use Rattle.gw_meaning.specs.declared.statement.Block.{Block}
 use Rattle.gw_meaning.specs.declared.statement.Body.{Body}
 use Rattle.gw_meaning.specs.declared.statement.Body.TheVariants as bodies
-use Rattle.gw_touch.specs.Same.{same_atom, same_value, same_part, same_parts, same_type, same_point, same_points, same_function, same_first, kind_of, atom_of, parts_of, number_of, bytes_of, same_term, same_operand, same_operands, same_verb, auxiliary_number, same_auxiliary, same_block, same_body, same_statement, same_label}
+use Rattle.gw_touch.specs.Same.{same_atom, same_value, same_part, same_parts, same_type, same_point, same_points, same_function, same_first, kind_of, atom_of, parts_of, number_of, bytes_of, same_term, same_operand, same_operands, same_verb, same_auxiliary, same_block, same_body, same_statement, same_label}
 
 -- the queue discipline with a number
 abbrev discipline_with : ℕ → Discipline
@@ -168,45 +166,9 @@ verb_same : (v w : BlockVerb) → same_verb v w ≡ true → v ≡ w
 unfolding same_verb
 verb_same v w h = same_true the_type (search rules) v w h
 
--- the auxiliary with a number
-abbrev all_auxiliaries : List Auxiliary
-all_auxiliaries =
-    auxiliaries.Absent ∷ auxiliaries.Plus ∷ auxiliaries.Minus ∷ auxiliaries.Equal ∷ auxiliaries.NotEqual ∷
-    auxiliaries.Greater ∷ auxiliaries.GreaterOrEqual ∷ auxiliaries.Less ∷ auxiliaries.LessOrEqual ∷
-    auxiliaries.Gate conditions.InUse ∷ auxiliaries.Gate conditions.NotInUse ∷ auxiliaries.Gate
-    conditions.IsSet ∷ auxiliaries.Gate conditions.IsReset ∷ auxiliaries.Gate conditions.Empty ∷
-    auxiliaries.Gate conditions.NotEmpty ∷ auxiliaries.Gate conditions.Full ∷ auxiliaries.Gate
-    conditions.NotFull ∷ auxiliaries.Logic switchings.Set ∷ auxiliaries.Logic switchings.Reset ∷
-    auxiliaries.Logic switchings.Invert ∷ []
-
-abbrev auxiliary_with : ℕ → Auxiliary
-auxiliary_with n = get_or all_auxiliaries n auxiliaries.Absent
-
-auxiliary_back : (a : Auxiliary) → auxiliary_with (auxiliary_number a) ≡ a
-auxiliary_back auxiliaries.Absent = refl
-auxiliary_back auxiliaries.Plus = refl
-auxiliary_back auxiliaries.Minus = refl
-auxiliary_back auxiliaries.Equal = refl
-auxiliary_back auxiliaries.NotEqual = refl
-auxiliary_back auxiliaries.Greater = refl
-auxiliary_back auxiliaries.GreaterOrEqual = refl
-auxiliary_back auxiliaries.Less = refl
-auxiliary_back auxiliaries.LessOrEqual = refl
-auxiliary_back (auxiliaries.Gate conditions.InUse) = refl
-auxiliary_back (auxiliaries.Gate conditions.NotInUse) = refl
-auxiliary_back (auxiliaries.Gate conditions.IsSet) = refl
-auxiliary_back (auxiliaries.Gate conditions.IsReset) = refl
-auxiliary_back (auxiliaries.Gate conditions.Empty) = refl
-auxiliary_back (auxiliaries.Gate conditions.NotEmpty) = refl
-auxiliary_back (auxiliaries.Gate conditions.Full) = refl
-auxiliary_back (auxiliaries.Gate conditions.NotFull) = refl
-auxiliary_back (auxiliaries.Logic switchings.Set) = refl
-auxiliary_back (auxiliaries.Logic switchings.Reset) = refl
-auxiliary_back (auxiliaries.Logic switchings.Invert) = refl
-
 auxiliary_same : (a b : Auxiliary) → same_auxiliary a b ≡ true → a ≡ b
-auxiliary_same a b h =
-    sym (auxiliary_back a) ∙ (ap auxiliary_with (eqb-true (auxiliary_number a) (auxiliary_number b) h) ∙ auxiliary_back b)
+unfolding same_auxiliary
+auxiliary_same a b h = search rules
 
 pub block_same : (a b : Block) → same_block a b ≡ true → a ≡ b
 block_same a b h =

@@ -18,12 +18,11 @@ use Rattle.gw_expr.specs.declared.token.Token.{Token}
 use Rattle.gw_names.specs.declared.verb.BlockVerb.{BlockVerb}
 use Rattle.gw_expr.specs.declared.expr.Discipline.{Discipline}
 use Rattle.gw_expr.specs.declared.expr.Discipline.TheVariants as disciplines
-use Rattle.gw_expr.specs.Term.{Term, Value, Computed, Named, Label, Fraction, Defined, Table, Order}
+use Rattle.gw_expr.specs.Term.{Term}
+use Rattle.gw_expr.specs.declared.expr.Expr.TheVariants.{Value, Computed, Named, Label, Fraction, Defined, Table, Order}
 use Rattle.gw_meaning.specs.declared.statement.Statement.{Statement}
 use Rattle.gw_meaning.specs.declared.auxiliary.Auxiliary.{Auxiliary}
-use Rattle.gw_meaning.specs.declared.auxiliary.Auxiliary.TheVariants as auxiliaries
-use Rattle.gw_meaning.specs.declared.auxiliary.Condition.TheVariants as conditions
-use Rattle.gw_meaning.specs.declared.auxiliary.Switching.TheVariants as switchings
+use Rattle.gw_meaning.specs.contracts.auxiliary.AuxiliaryPartialEq.TheImpl as auxiliary_comparison
 use Rattle.gw_meaning.specs.declared.statement.Block.{Block}
 use Rattle.gw_meaning.specs.declared.statement.Body.{Body}
 use Rattle.gw_meaning.specs.declared.statement.Body.TheVariants as bodies
@@ -105,31 +104,9 @@ same_operands (a ∷ xs) (b ∷ ys) = same_operand a b && same_operands xs ys
 unfoldable pub same_verb : BlockVerb → BlockVerb → Bool
 same_verb = sameb the_type
 
--- two auxiliaries, by a number that each has alone
-abbrev pub auxiliary_number : Auxiliary → ℕ
-auxiliary_number auxiliaries.Absent = 0
-auxiliary_number auxiliaries.Plus = 1
-auxiliary_number auxiliaries.Minus = 2
-auxiliary_number auxiliaries.Equal = 3
-auxiliary_number auxiliaries.NotEqual = 4
-auxiliary_number auxiliaries.Greater = 5
-auxiliary_number auxiliaries.GreaterOrEqual = 6
-auxiliary_number auxiliaries.Less = 7
-auxiliary_number auxiliaries.LessOrEqual = 8
-auxiliary_number (auxiliaries.Gate conditions.InUse) = 9
-auxiliary_number (auxiliaries.Gate conditions.NotInUse) = 10
-auxiliary_number (auxiliaries.Gate conditions.IsSet) = 11
-auxiliary_number (auxiliaries.Gate conditions.IsReset) = 12
-auxiliary_number (auxiliaries.Gate conditions.Empty) = 13
-auxiliary_number (auxiliaries.Gate conditions.NotEmpty) = 14
-auxiliary_number (auxiliaries.Gate conditions.Full) = 15
-auxiliary_number (auxiliaries.Gate conditions.NotFull) = 16
-auxiliary_number (auxiliaries.Logic switchings.Set) = 17
-auxiliary_number (auxiliaries.Logic switchings.Reset) = 18
-auxiliary_number (auxiliaries.Logic switchings.Invert) = 19
-
-abbrev pub same_auxiliary : Auxiliary → Auxiliary → Bool
-same_auxiliary a b = auxiliary_number a == auxiliary_number b
+-- two auxiliaries
+unfoldable pub same_auxiliary : Auxiliary → Auxiliary → Bool
+same_auxiliary = auxiliary_comparison.ghosts.eq
 
 -- two blocks
 abbrev pub same_block : Block → Block → Bool

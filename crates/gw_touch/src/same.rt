@@ -1,8 +1,8 @@
 ghost use Rattle.std.specs.Prelude.{◌≡◌, option_copied};
-ghost use Rattle.gw_touch.specs.Same.{same_term, same_operand, same_operands, same_verb, auxiliary_number, same_auxiliary, same_block, same_body, same_statement, same_label, same_atom, same_value, same_part, same_parts, same_type, same_points, same_function, same_first, kind_of, atom_of, parts_of, order_number, number_of, bytes_of};
+ghost use Rattle.gw_touch.specs.Same.{same_term, same_operand, same_operands, same_verb, same_auxiliary, same_block, same_body, same_statement, same_label, same_atom, same_value, same_part, same_parts, same_type, same_points, same_function, same_first, kind_of, atom_of, parts_of, order_number, number_of, bytes_of};
 
 use gw_expr::{Atom, Discipline, Expr, Function, FunctionType, Point, Token};
-use gw_meaning::{Auxiliary, Block, Body, Condition, Statement, Switching};
+use gw_meaning::{Auxiliary, Block, Body, Statement};
 use gw_names::{BlockVerb, Name};
 
 /// Whether both are blocks with the same verb, auxiliary and operands. Labels do not count.
@@ -36,38 +36,11 @@ fn same_verb(old: BlockVerb, new: BlockVerb) -> bool
     old == new
 }
 
+#[tactic(auto, unfolding(crate::specs::Same::same_auxiliary))]
 fn same_auxiliary(old: Auxiliary, new: Auxiliary) -> bool
     ensures { result ≡ same_auxiliary old new }
 {
-    auxiliary_number(old) == auxiliary_number(new)
-}
-
-// The number that an auxiliary has alone.
-fn auxiliary_number(auxiliary: Auxiliary) -> u32
-    ensures { result ≡ auxiliary_number auxiliary }
-{
-    match auxiliary {
-        Auxiliary::Absent => 0,
-        Auxiliary::Plus => 1,
-        Auxiliary::Minus => 2,
-        Auxiliary::Equal => 3,
-        Auxiliary::NotEqual => 4,
-        Auxiliary::Greater => 5,
-        Auxiliary::GreaterOrEqual => 6,
-        Auxiliary::Less => 7,
-        Auxiliary::LessOrEqual => 8,
-        Auxiliary::Gate(Condition::InUse) => 9,
-        Auxiliary::Gate(Condition::NotInUse) => 10,
-        Auxiliary::Gate(Condition::IsSet) => 11,
-        Auxiliary::Gate(Condition::IsReset) => 12,
-        Auxiliary::Gate(Condition::Empty) => 13,
-        Auxiliary::Gate(Condition::NotEmpty) => 14,
-        Auxiliary::Gate(Condition::Full) => 15,
-        Auxiliary::Gate(Condition::NotFull) => 16,
-        Auxiliary::Logic(Switching::Set) => 17,
-        Auxiliary::Logic(Switching::Reset) => 18,
-        Auxiliary::Logic(Switching::Invert) => 19,
-    }
+    old == new
 }
 
 #[tactic(auto, using(crate::proofs::SameBlocks::more_than_none))]

@@ -4,7 +4,8 @@ use Rattle.gw_expr.specs.declared.halt.Halt.{Halt}
 use Rattle.gw_expr.specs.declared.halt.Halt.TheVariants as halts
 use Rattle.gw_expr.specs.declared.function.Function.{Function}
 use Rattle.gw_expr.specs.Evaluation.{Question, NumberOf, AttributeOf, PartOf, VariableOf, FunctionOf, Reply, Evaluation, Wants, value_of, value_by, value_of_atom}
-use Rattle.gw_expr.specs.Term.{Term, Value}
+use Rattle.gw_expr.specs.Term.{Term}
+use Rattle.gw_expr.specs.declared.expr.Expr.TheVariants.{Value}
 use Rattle.gw_expr.specs.declared.atom.Atom.TheVariants as atoms
 use Rattle.gw_expr.specs.Worlds.{Says, Evaluates, yields, stops, refused, replied, failed}
 use Rattle.gw_meaning.specs.declared.asker.Asker.{Asker}

@@ -1,7 +1,7 @@
 // What operands stand for: values, entities and units.
 ghost use Rattle.std.specs.Prelude.{◌≡◌, [], Some, IfSome, option_copied};
 ghost use Rattle.gw_expr.specs.declared.atom.Atom.TheVariants as atoms;
-ghost use Rattle.gw_expr.specs.Term.{Value};
+ghost use Rattle.gw_expr.specs.declared.expr.Expr.TheVariants.{Value};
 ghost use Rattle.gw_expr.specs.Evaluation.{value_of};
 ghost use Rattle.gw_meaning.specs.Evaluation.{value_prog, value_or_zero, value_there, numbered, entity_prog, units_prog, ◌~>◌, gives, traced, value_traced, entity_traced};
 ghost use Rattle.gw_values.specs.Tracing.{with_read};

@@ -1,7 +1,8 @@
 -- SPLIT and UNLINK by how many come of them.
 use Rattle.std.proofs.Common.{◌≡◌, ℕ, zero, suc, List, Option, Some, None, refl}
 use Rattle.gw_names.specs.declared.key.Key.{Key}
-use Rattle.gw_expr.specs.Term.{Term, Value, Computed, Named, Label, Fraction, Defined, Table, Order}
+use Rattle.gw_expr.specs.Term.{Term}
+use Rattle.gw_expr.specs.declared.expr.Expr.TheVariants.{Value, Computed, Named, Label, Fraction, Defined, Table, Order}
 use Rattle.gw_meaning.specs.declared.item.Asked.TheVariants as asking
 use Rattle.gw_meaning.specs.declared.item.Item.TheVariants as items
 use Rattle.gw_meaning.specs.Evaluation.{asks}

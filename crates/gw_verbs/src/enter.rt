@@ -1,6 +1,6 @@
 // ENTER: units of a storage come into use.
 ghost use Rattle.std.specs.Prelude.{Some, option_copied};
-ghost use Rattle.gw_expr.specs.Term.{Defined};
+ghost use Rattle.gw_expr.specs.declared.expr.Expr.TheVariants.{Defined};
 ghost use Rattle.gw_meaning.specs.Step.{enter_or_wait, enter_storage, enter_prog};
 ghost use Rattle.gw_asking.specs.Deciding.{Decides, Comes};
 ghost use Rattle.gw_values.specs.Contexts.{DecidesIn};

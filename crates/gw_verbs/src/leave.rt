@@ -1,6 +1,6 @@
 // LEAVE: units of a storage are given back.
 ghost use Rattle.std.specs.Prelude.{Some, option_copied};
-ghost use Rattle.gw_expr.specs.Term.{Defined};
+ghost use Rattle.gw_expr.specs.declared.expr.Expr.TheVariants.{Defined};
 ghost use Rattle.gw_meaning.specs.Step.{leave_for, leave_units, leave_prog};
 ghost use Rattle.gw_asking.specs.Deciding.{Comes};
 ghost use Rattle.gw_values.specs.Contexts.{DecidesIn};

@@ -1,6 +1,7 @@
 use Rattle.std.proofs.Common.{◌≡◌, ℕ, List, [], Some, refl, sym, subst}
 use Rattle.gw_names.specs.declared.key.Key.{Key}
-use Rattle.gw_expr.specs.Term.{Term, Named}
+use Rattle.gw_expr.specs.Term.{Term}
+use Rattle.gw_expr.specs.declared.expr.Expr.TheVariants.{Named}
 use Rattle.gw_expr.specs.Evaluation.{value_of}
 use Rattle.gw_meaning.specs.declared.asker.Asker.{Asker}
 use Rattle.gw_meaning.specs.declared.watched.Watched.{Watched}

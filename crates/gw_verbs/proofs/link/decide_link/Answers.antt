@@ -1,6 +1,6 @@
 use Rattle.std.proofs.Common.{◌≡◌, Ok, Some, option_copied, refl, rules}
 use Rattle.gw_names.specs.declared.key.Key.{Key}
-use Rattle.gw_expr.specs.Term.{Order}
+use Rattle.gw_expr.specs.declared.expr.Expr.TheVariants.{Order}
 use Rattle.gw_meaning.specs.declared.moves.Change.TheVariants as changes
 use Rattle.gw_meaning.specs.declared.moves.Fate.TheVariants as fates
 use Rattle.gw_meaning.specs.declared.moves.Move.{Move}

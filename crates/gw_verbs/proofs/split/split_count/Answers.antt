@@ -1,5 +1,5 @@
 use Rattle.std.proofs.Common.{◌≡◌, Ok, None, Some, option_copied, sym, ap, ◌∙◌, subst, rules}
-use Rattle.gw_expr.specs.Term.{Label}
+use Rattle.gw_expr.specs.declared.expr.Expr.TheVariants.{Label}
 use Rattle.gw_meaning.specs.declared.item.Asked.TheVariants as asking
 use Rattle.gw_meaning.specs.declared.item.Item.TheVariants as items
 use Rattle.gw_meaning.specs.Listing.{label_at}
