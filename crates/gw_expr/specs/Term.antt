@@ -6,7 +6,7 @@ use Rattle.gw_expr.specs.declared.atom.Atom.{Atom}
 use Rattle.gw_expr.specs.declared.token.Token.{Token}
 use Rattle.gw_expr.specs.declared.token.Token.TheVariants as tokens
 use Rattle.gw_expr.specs.declared.expr.Expr.{Expr}
-use Rattle.gw_expr.specs.declared.expr.Expr.TheVariants.{Value, Computed, Named, Label, Fraction, Defined, Table, Order}
+use Rattle.gw_expr.specs.declared.expr.Expr.TheVariants.{Value, Computed}
 
 -- an operand, as it is kept
 abbrev pub Term : Type 0

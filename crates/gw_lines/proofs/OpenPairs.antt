@@ -5,7 +5,7 @@ use Rattle.std.proofs.lemmas.Bool.{and_parts, both_ways, cases_Bool, ltb-true, l
 use Rattle.std.proofs.lemmas.Bool.Decides.{nat_tests}
 use Rattle.std.proofs.lemmas.List.{length_push}
 use Rattle.std.proofs.lemmas.List.Elements.{All-head, All-tail}
-use Rattle.gw_expr.specs.Term as terms
+use Rattle.gw_expr.specs.declared.expr.Expr.TheVariants as terms
 use Rattle.gw_expr.specs.declared.function.Function.{Function}
 use Rattle.gw_expr.specs.declared.function.FunctionType.TheVariants as types
 use Rattle.gw_expr.specs.declared.function.Point.{Point}

@@ -10,7 +10,7 @@ use Rattle.gw_expr.specs.declared.attribute.Subject.{Subject}
 use Rattle.gw_expr.specs.Expressions.{Expression, postfix}
 use Rattle.gw_expr.specs.Term.{Term}
 use Rattle.gw_expr.specs.declared.expr.Expr.TheVariants.{Computed, Named}
-use Rattle.gw_expr.specs.Term as terms
+use Rattle.gw_expr.specs.declared.expr.Expr.TheVariants as terms
 use Rattle.gw_lines.specs.declared.form.Kind.{Kind}
 use Rattle.gw_lines.specs.declared.form.Kind.TheVariants as kinds
 use Rattle.gw_lines.specs.declared.operand.Operand.{Operand}

@@ -15,7 +15,7 @@ use Rattle.gw_expr.specs.declared.token.Operator.{Operator}
 use Rattle.gw_expr.specs.declared.token.Operator.TheVariants as operators
 use Rattle.gw_expr.specs.Expressions.{Expression, Single, Opposite, Both, postfix}
 use Rattle.gw_expr.specs.declared.expr.Discipline.TheVariants as disciplines
-use Rattle.gw_expr.specs.Term as terms
+use Rattle.gw_expr.specs.declared.expr.Expr.TheVariants as terms
 use Rattle.gw_expr.specs.declared.function.FunctionType.TheVariants as types
 use Rattle.gw_meaning.specs.declared.auxiliary.Auxiliary.{Auxiliary}
 use Rattle.gw_meaning.specs.declared.statement.Body.{Body}
