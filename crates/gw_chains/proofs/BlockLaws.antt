@@ -1,10 +1,12 @@
 -- Laws of a block of the future chain: times and keys side by side, and the transactions in a slab.
-use Rattle.std.proofs.Common.{◌≡◌, ◌≢◌, ℕ, zero, suc, ◌+◌, ◌-◌, ◌^◌, ◌<◌, ◌≤◌, Bool, nat_eq, cond, arith, true, false, not, List, [], ◌∷◌, ◌++◌, Option, None, Some, All, length, length-append, get_or, min, filter, refl, sym, ap, subst, ◌∙◌, inl, inr}
+use Rattle.std.proofs.Common.{◌≡◌, ◌≢◌, ℕ, zero, suc, ◌+◌, ◌-◌, ◌^◌, ◌<◌, ◌≤◌, Bool, nat_eq, cond, arith, true, false, not, List, [], ◌∷◌, ◌++◌, Option, None, Some, All, length, length-append, get_or, min, filter, take, refl, sym, ap, subst, ◌∙◌, inl, inr}
 use Rattle.std.specs.Prelude.{nat_le, slice_get, remove, is_some, IsSome, unwrap_or}
 use Rattle.std.specs.List.{AllZip}
 use Rattle.std.proofs.lemmas.Bool.{cond_both, cases_eq}
 use Rattle.std.proofs.lemmas.Bool.Decides.{nat_tests}
+use Rattle.std.proofs.lemmas.List.{take_more}
 use Rattle.std.proofs.lemmas.List.Elements.{same_from_all_zip}
+use Rattle.std.proofs.lemmas.Option.{slice_get_within, get_or_from_slice_get}
 use Rattle.slab.specs.Slab.{Slab, get, ContainsKey, Updates, IsSlotClone}
 use Rattle.gw_lanes.specs.FirstAt.{IsFirstAt}
 use Rattle.gw_lanes.specs.Least.{least, lesser}
@@ -69,6 +71,30 @@ pub time_at : (ts : List ℕ) (i d : ℕ) → AreTimes ts → i < length ts → 
 time_at [] i d times h = absurd (omega (arith, h))
 time_at (t ∷ ts) zero d times h = times.0
 time_at (t ∷ ts) (suc i) d times h = time_at ts i d times.1 (omega (arith, h))
+
+-- the event at an index, by its time
+pub record EventAt (es : List Event) (i t : ℕ) : Type 0 where
+  pub event : Event
+  pub time : event.time ≡ t
+  pub there : slice_get es i ≡ Some event
+
+event_there : (slab : Slab Transaction) (ts ks : List ℕ) (i t d : ℕ) → length ts ≡ length ks → i < length ts → t ≡ get_or ts i d →
+    EventAt (events_of slab ts ks) i t
+event_there slab [] ks i t d long h is = absurd (omega (arith, h))
+event_there slab (u ∷ ts) [] i t d long h is = absurd (omega (arith, long))
+event_there slab (u ∷ ts) (k ∷ ks) zero t d long h is =
+    record { event = record { time = u; transaction = at slab k }; time = sym is; there = refl }
+event_there slab (u ∷ ts) (k ∷ ks) (suc i) t d long h is =
+    let next = event_there slab ts ks i t d (omega (arith, long)) (omega (arith, h)) is in
+    record { event = next.event; time = next.time; there = next.there }
+
+pub event_on : {slab : Slab Transaction} {ts ks : List ℕ} {ticks : ℕ} → IsBlock slab ts ks ticks → (es : List Event) → events_of slab ts ks ≡ es →
+    (i t d : ℕ) → i < length ts → t ≡ get_or ts i d → EventAt es i t
+event_on {slab} {ts} {ks} b es is i t d h time = subst (λ es. EventAt es i t) is (event_there slab ts ks i t d b.long h time)
+
+pub next_there : (es : List Event) (i : ℕ) (e : Event) → slice_get es i ≡ Some e → take (i + 1) es ≡ take i es ++ e ∷ []
+next_there es i e is =
+    take_more es i e (slice_get_within es i e is) ∙ ap (λ x. take i es ++ x ∷ []) (get_or_from_slice_get es i e e is)
 
 -- keys
 pub places_push : (k : ℕ) (ks : List ℕ) (j : ℕ) → places k (ks ++ j ∷ []) ≡ places k (j ∷ ks)

@@ -1,13 +1,15 @@
 -- Laws of transactions with their times: the least time, who is due and who stays.
-use Rattle.std.proofs.Common.{◌≡◌, ◌≢◌, ℕ, suc, ◌+◌, ◌<◌, ◌≤◌, Bool, arith, true, false, not, List, [], ◌∷◌, Option, None, Some, ◌++◌, length, refl, ap, ◌∙◌, filter, min, inl, inr}
+use Rattle.std.proofs.Common.{◌≡◌, ◌≢◌, ℕ, zero, suc, ◌+◌, ◌<◌, ◌≤◌, Bool, cond, arith, true, false, not, List, [], ◌∷◌, Option, None, Some, ◌++◌, length, append-nil, take, refl, ap, ◌∙◌, filter, min, inl, inr}
+use Rattle.std.specs.Prelude.{nat_le, nat_lt}
 use Rattle.std.proofs.lemmas.Bool.{cases_eq}
 use Rattle.std.proofs.lemmas.Bool.Decides.{nat_tests}
+use Rattle.std.proofs.lemmas.List.Elements.{filter-append}
 use Rattle.gw_meaning.specs.declared.transaction.Transaction.{Transaction}
 use Rattle.gw_meaning.specs.declared.transaction.Event.{Event}
 use Rattle.gw_meaning.specs.Changes.{lined_up, all_lined_up, due, is_due}
 use Rattle.gw_meaning.specs.Step.{least_time, sooner}
 use Rattle.gw_meaning.proofs.Chains.{length_lined}
-use Rattle.gw_chains.specs.Blocks.{IsNoneBefore}
+use Rattle.gw_chains.specs.Blocks.{IsNoneBefore, since, after}
 
 -- the sooner of two times, where there are any
 abbrev pub soonest : Option ℕ → Option ℕ → Option ℕ
@@ -44,6 +46,33 @@ pub all_lined_append : (xs ys chain : List Transaction) → all_lined_up (xs ++ 
 all_lined_append [] ys chain = refl
 all_lined_append (x ∷ xs) ys chain = all_lined_append xs ys (lined_up x chain)
 
+-- one more is gone through
+module _ (es : List Event) (i : ℕ) (e : Event) (more : take (i + 1) es ≡ take i es ++ e ∷ []) where
+  pub one_kept : (p : Event → Bool) → p e ≡ true → filter p (take (i + 1) es) ≡ filter p (take i es) ++ e ∷ []
+  one_kept p is = ap (filter p) more ∙ (filter-append p (take i es) (e ∷ []) ∙ rw is refl)
+
+  pub one_left : (p : Event → Bool) → p e ≡ false → filter p (take (i + 1) es) ≡ filter p (take i es)
+  one_left p is = ap (filter p) more ∙ (filter-append p (take i es) (e ∷ []) ∙ rw is (append-nil (filter p (take i es))))
+
+  pub one_due : (t : ℕ) → e.time ≡ t → due t (take (i + 1) es) ≡ due t (take i es) ++ e.transaction ∷ []
+  one_due t same =
+      let now : is_due t e ≡ true = grind (arith, nat_tests) in
+      ap (due t) more ∙ (due_append t (take i es) (e ∷ []) ∙ rw now refl)
+
+  pub none_more_due : (t : ℕ) → e.time ≢ t → due t (take (i + 1) es) ≡ due t (take i es)
+  none_more_due t other =
+      let later : is_due t e ≡ false = grind (arith, nat_tests) in
+      ap (due t) more ∙ (due_append t (take i es) (e ∷ []) ∙ rw later (append-nil (due t (take i es))))
+
+pub due_within : (t i : ℕ) (es : List Event) → length (due t (take i es)) ≤ length (due t es)
+due_within t zero es = omega arith
+due_within t (suc i) [] = omega arith
+due_within t (suc i) (e ∷ es) = go (is_due t e) refl (due_within t i es) where
+  go : (b : Bool) → is_due t e ≡ b → length (due t (take i es)) ≤ length (due t es) →
+      length (due t (take (suc i) (e ∷ es))) ≤ length (due t (e ∷ es))
+  go true now rest = rw now (omega (arith, rest))
+  go false later rest = rw later rest
+
 -- how many there are
 pub length_all_lined : (xs chain : List Transaction) → length (all_lined_up xs chain) ≡ length xs + length chain
 length_all_lined [] chain = omega arith
@@ -72,24 +101,8 @@ due_leave t (e ∷ es) = go (is_due t e) refl (due_leave t es) where
   go true h rest = rw h rest
   go false h rest = rw (h, h) rest
 
--- where the least time is one of them, somebody is due
-pub some_due : (t : ℕ) (es : List Event) → least_time es ≡ Some t → 0 < length (due t es)
-some_due t [] is = absurd cc
-some_due t (e ∷ es) is = elim (cases_eq e.time t) [
-  | inl same ↦ let now : is_due t e ≡ true = grind (arith, nat_tests) in rw now (omega arith)
-  | inr other ↦
-      let later : is_due t e ≡ false = grind (arith, nat_tests) in
-      rw later (some_due t es (go (least_time es) is other))
-] where
-  go : (o : Option ℕ) → sooner e.time o ≡ Some t → e.time ≢ t → o ≡ Some t
-  go None is other = absurd (other cc)
-  go (Some m) is other =
-      let least : min e.time m ≡ t = cc in
-      let same : m ≡ t = grind (arith, nat_tests) in
-      ap (λ n. Some n) same
-
 -- none is before the least time
-none_without : (t : ℕ) (es : List Event) → least_time es ≡ None → IsNoneBefore t es
+pub none_without : (t : ℕ) (es : List Event) → least_time es ≡ None → IsNoneBefore t es
 none_without t [] is = tt
 none_without t (e ∷ es) is = absurd (go (least_time es) is) where
   go : (o : Option ℕ) → sooner e.time o ≡ None → ⊥
@@ -160,3 +173,45 @@ none_due t (e ∷ es) h other =
         let same : m ≡ t = cc in
         let e : min a m ≡ t = grind (arith, nat_tests) in
         ap (λ n. Some n) e
+
+-- those from a time on, and those after it
+pub since_all : (t : ℕ) (es : List Event) → IsNoneBefore t es → since t es ≡ es
+since_all t [] h = refl
+since_all t (e ∷ es) h =
+    let le : t ≤ e.time = h.0 in
+    let there : nat_le t e.time ≡ true = grind (arith, nat_tests) in
+    rw there (ap (λ zs. e ∷ zs) (since_all t es h.1))
+
+pub due_since : (t : ℕ) (es : List Event) → due t (since t es) ≡ due t es
+due_since t [] = refl
+due_since t (e ∷ es) = go (nat_le t e.time) refl (due_since t es) where
+  go : (b : Bool) → nat_le t e.time ≡ b → due t (since t es) ≡ due t es → due t (since t (e ∷ es)) ≡ due t (e ∷ es)
+  go true there rest = rw there (ap (λ xs. cond (is_due t e) (e.transaction ∷ xs) xs) rest)
+  go false gone rest = let other : is_due t e ≡ false = grind (arith, nat_tests) in rw (gone, other) rest
+
+pub stay_since : (t : ℕ) (es : List Event) → filter (λ e. not (is_due t e)) (since t es) ≡ after t es
+stay_since t [] = refl
+stay_since t (e ∷ es) = go (nat_le t e.time) (nat_lt t e.time) refl refl (stay_since t es) where
+  go : (b c : Bool) → nat_le t e.time ≡ b → nat_lt t e.time ≡ c → filter (λ e. not (is_due t e)) (since t es) ≡ after t es →
+      filter (λ e. not (is_due t e)) (since t (e ∷ es)) ≡ after t (e ∷ es)
+  go true true there later rest =
+      let other : is_due t e ≡ false = grind (arith, nat_tests) in
+      rw (there, later, other) (ap (λ zs. e ∷ zs) rest)
+  go true false there later rest = let now : is_due t e ≡ true = grind (arith, nat_tests) in rw (there, later, now) rest
+  go false true gone later rest = absurd (grind (arith, nat_tests))
+  go false false gone later rest = rw (gone, later) rest
+
+pub since_after : (t m : ℕ) (es : List Event) → t < m → IsNoneBefore m (after t es) → since m es ≡ after t es
+since_after t m [] lt h = refl
+since_after t m (e ∷ es) lt h = go (nat_lt t e.time) refl h (since_after t m es lt) where
+  go : (b : Bool) → nat_lt t e.time ≡ b → IsNoneBefore m (after t (e ∷ es)) → (IsNoneBefore m (after t es) → since m es ≡ after t es) →
+      since m (e ∷ es) ≡ after t (e ∷ es)
+  go true later h rest =
+      let both : IsNoneBefore m (e ∷ after t es) = rw later at h in
+      let le : m ≤ e.time = both.0 in
+      let there : nat_le m e.time ≡ true = grind (arith, nat_tests) in
+      rw (later, there) (ap (λ zs. e ∷ zs) (rest both.1))
+  go false later h rest =
+      let others : IsNoneBefore m (after t es) = rw later at h in
+      let gone : nat_le m e.time ≡ false = grind (arith, nat_tests) in
+      rw (later, gone) (rest others)

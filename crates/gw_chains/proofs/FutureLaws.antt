@@ -1,35 +1,23 @@
 -- Laws of the future chain in blocks.
-use Rattle.std.proofs.Common.{◌≡◌, ◌≢◌, ℕ, zero, suc, ◌+◌, ◌<◌, ◌≤◌, Bool, arith, true, false, not, List, [], ◌∷◌, Some, ◌++◌, length, length-append, refl, sym, ap, subst, ◌∙◌, filter, append_assoc, append-nil, take, drop, get_or, set, map, inl, inr, ◌⊎◌}
-use Rattle.std.specs.Prelude.{nat_lt}
-use Rattle.std.proofs.lemmas.Bool.Decides.{nat_tests}
-use Rattle.std.proofs.lemmas.Bool.{cases_eq}
-use Rattle.std.proofs.lemmas.List.{take_more, map-set, get_or-set_same, get_or-set_other, length-set, length-map, take_all}
+use Rattle.std.proofs.Common.{◌≡◌, ℕ, zero, suc, ◌+◌, ◌<◌, ◌≤◌, Bool, arith, not, List, [], ◌∷◌, ◌++◌, None, length, length-append, length-set, refl, sym, ap, subst, ◌∙◌, filter, append_assoc, append-nil, take, drop, get_or, set, min}
+use Rattle.std.specs.Prelude.{remove}
+use Rattle.std.proofs.lemmas.List.{take_more, take_all}
 use Rattle.std.proofs.lemmas.List.Elements.{filter-append}
-use Rattle.std.proofs.lemmas.List.{get_or-map}
 use Rattle.gw_meaning.specs.declared.transaction.Transaction.{Transaction}
 use Rattle.gw_meaning.specs.declared.transaction.Event.{Event}
 use Rattle.gw_meaning.specs.Changes.{all_lined_up, due, is_due}
 use Rattle.gw_meaning.specs.Step.{least_time}
-use Rattle.gw_lanes.specs.FirstAt.{IsFirstAt}
-use Rattle.gw_chains.specs.Blocks.{Full, all_items, is_in_use, AreLeasts, AreOthers, AreOwn, IsNoneBefore, time_of}
-use Rattle.gw_chains.proofs.EventLaws.{due_append, all_lined_append, length_all_lined, kept_and_due, none_leaves, due_leave, some_due, before_front, before_back, before_both, before_stay}
-use Rattle.gw_chains.proofs.BlockLaws.{time_within}
-use Rattle.gw_chains.proofs.Leasts.{none_in_front, same_long, least_at}
+use Rattle.gw_chains.specs.Blocks.{Full, all_items, time_of, IsNoneBefore}
+use Rattle.gw_chains.proofs.EventLaws.{due_append, all_lined_append, length_all_lined, kept_and_due, none_leaves, due_leave, before_front, before_back, before_both, before_stay}
+use Rattle.gw_chains.proofs.Leasts.{least_both}
 
 -- the blocks one after the other
 pub all_items_append : (bs cs : List Full) → all_items (bs ++ cs) ≡ all_items bs ++ all_items cs
 all_items_append [] cs = refl
 all_items_append (b ∷ bs) cs = ap (λ es. b.items ++ es) (all_items_append bs cs) ∙ sym (append_assoc b.items (all_items bs) (all_items cs))
 
-pub all_items_in_use : (bs : List Full) → all_items (filter is_in_use bs) ≡ all_items bs
-all_items_in_use [] = refl
-all_items_in_use (b ∷ bs) = go b.items refl (all_items_in_use bs) where
-  go : (es : List Event) → b.items ≡ es → all_items (filter is_in_use bs) ≡ all_items bs →
-      all_items (filter is_in_use (b ∷ bs)) ≡ b.items ++ all_items bs
-  go [] h rest = rw h rest
-  go (e ∷ es) h rest =
-      let some : nat_lt 0 (suc (length es)) ≡ true = grind (arith, nat_tests) in
-      rw (h, some) (ap (λ zs. e ∷ es ++ zs) rest)
+pub all_items_more : (bs : List Full) (u : Full) → all_items (bs ++ u ∷ []) ≡ all_items bs ++ u.items
+all_items_more bs u = all_items_append bs (u ∷ []) ∙ ap (λ es. all_items bs ++ es) (append-nil u.items)
 
 -- what stands before a block, on it, and after it
 pub cut : (bs : List Full) (i : ℕ) (b : Full) → i < length bs → b ≡ get_or bs i b →
@@ -48,10 +36,6 @@ put (c ∷ cs) (suc i) u h =
     ap (λ es. c.items ++ es) (put cs i u (omega (arith, h)))
     ∙ sym (append_assoc c.items (all_items (take i cs)) (u.items ++ all_items (drop (suc i) cs)))
 
-pub replaced : (bs : List Full) (i : ℕ) (b u : Full) → i < length bs → b ≡ get_or bs i b → u.items ≡ b.items → all_items (set bs i u) ≡ all_items bs
-replaced bs i b u h is same =
-    put bs i u h ∙ (ap (λ es. all_items (take i bs) ++ (es ++ all_items (drop (suc i) bs))) same ∙ sym (cut bs i b h is))
-
 pub on_block : (bs : List Full) (i : ℕ) (b : Full) → i < length bs → b ≡ get_or bs i b → length b.items ≤ length (all_items bs)
 on_block bs i b h is =
     omega (
@@ -59,6 +43,21 @@ on_block bs i b h is =
       ap length (cut bs i b h is),
       length-append (all_items (take i bs)) (b.items ++ all_items (drop (suc i) bs)),
       length-append b.items (all_items (drop (suc i) bs)),
+    )
+
+pub sizes : (bs : List Full) (i : ℕ) (b u : Full) → i < length bs → b ≡ get_or bs i b →
+    length (all_items bs) + length u.items ≡ length (all_items (set bs i u)) + length b.items
+sizes bs i b u h is =
+    let front = all_items (take i bs) in
+    let back = all_items (drop (suc i) bs) in
+    omega (
+      arith,
+      ap length (cut bs i b h is),
+      ap length (put bs i u h),
+      length-append front (b.items ++ back),
+      length-append front (u.items ++ back),
+      length-append b.items back,
+      length-append u.items back,
     )
 
 -- one more is read
@@ -82,7 +81,7 @@ pub full_is : (bs : List Full) (full : Full) (last fresh : List Event) → full.
     all_items (bs ++ full ∷ []) ++ fresh ≡ all_items bs ++ last
 full_is bs full last fresh same none =
     ap (λ es. all_items (bs ++ full ∷ []) ++ es) none ∙ (append-nil (all_items (bs ++ full ∷ [])) ∙
-    (all_items_append bs (full ∷ []) ∙ ap (λ es. all_items bs ++ es) (append-nil full.items ∙ same)))
+    (all_items_more bs full ∙ ap (λ es. all_items bs ++ es) same))
 
 -- a clock step over the full blocks and then over the last: who is on the current chain, and who stays
 pub record Stepped (t : ℕ) (all : List Event) (start : List Transaction) (left : List Event) (new : List Transaction) : Type 0 where
@@ -91,17 +90,16 @@ pub record Stepped (t : ℕ) (all : List Event) (start : List Transaction) (left
   pub more : length start ≤ length new
   pub counts : length new + length left ≡ length start + length all
 
-pub stepped : (t : ℕ) (full last ready left rest : List Event) (start mid new : List Transaction) → ready ≡ full →
-    mid ≡ all_lined_up (due t ready) start → left ≡ filter (λ e. not (is_due t e)) ready →
+pub stepped : (t : ℕ) (full last left rest : List Event) (start mid new : List Transaction) →
+    mid ≡ all_lined_up (due t full) start → left ≡ filter (λ e. not (is_due t e)) full →
     new ≡ all_lined_up (due t last) mid → rest ≡ filter (λ e. not (is_due t e)) last → Stepped t (full ++ last) start (left ++ rest) new
-stepped t full last ready left rest start mid new same come stay then others =
+stepped t full last left rest start mid new come stay then others =
     let p : Event → Bool = λ e. not (is_due t e) in
-    let first : mid ≡ all_lined_up (due t full) start = come ∙ ap (λ es. all_lined_up (due t es) start) same in
     let taken : new ≡ all_lined_up (due t (full ++ last)) start =
-    then ∙ (ap (all_lined_up (due t last)) first ∙ sym (ap (λ xs. all_lined_up xs start) (due_append t full last) ∙
+    then ∙ (ap (all_lined_up (due t last)) come ∙ sym (ap (λ xs. all_lined_up xs start) (due_append t full last) ∙
     all_lined_append (due t full) (due t last) start)) in
     let kept : left ++ rest ≡ filter p (full ++ last) =
-    ap (λ es. es ++ rest) (stay ∙ ap (filter p) same) ∙ (ap (λ es. filter p full ++ es) others ∙ sym (filter-append p full last)) in
+    ap (λ es. es ++ rest) stay ∙ (ap (λ es. filter p full ++ es) others ∙ sym (filter-append p full last)) in
     let long = ap length taken ∙ length_all_lined (due t (full ++ last)) start in
     record {
       come = taken;
@@ -145,87 +143,90 @@ module _ (t : ℕ) (A M E : List Event) (none : due t A ≡ []) where
             (before_both t M' E (subst (IsNoneBefore t) (sym is) (before_stay t M (before_front t M E back))) (before_back t M E back)));
       }
 
-  pub part_smaller : (M' now now' : List Event) → M' ≡ filter (λ e. not (is_due t e)) M → now ≡ A ++ (M ++ E) → now' ≡ A ++ (M' ++ E) →
-      (length now + length M' ≡ length now' + length M) × (length M' + length (due t M) ≡ length M)
-  part_smaller M' now now' is old new =
-      let a = ap length old ∙ length-append A (M ++ E) in
-      let b = ap length new ∙ length-append A (M' ++ E) in
-      (omega (arith, a, b, length-append M E, length-append M' E), omega (arith, ap length is, kept_and_due t M))
+-- a block in a list
+taken_here : (bs : List Full) (i : ℕ) (u : Full) → i < length bs → take (suc i) (set bs i u) ≡ take i bs ++ u ∷ []
+taken_here [] i u h = absurd (omega (arith, h))
+taken_here (c ∷ cs) zero u h = refl
+taken_here (c ∷ cs) (suc i) u h = ap (λ ds. c ∷ ds) (taken_here cs i u (omega (arith, h)))
 
--- the first block with the least time is gone through
-module _ (t : ℕ) (ns : List ℕ) (bs : List Full) (i : ℕ) (b u : Full) (all : List Event) (start current : List Transaction)
-    (e : AreLeasts ns bs) (f : IsFirstAt t ns i) (low : t ≤ 1001000000000) (is : b ≡ get_or bs i b)
-    (kept : u.items ≡ filter (λ e. not (is_due t e)) b.items) (k : Taking t all start (all_items bs) current) where
-  within : i < length bs
-  within = omega (arith, f.within, same_long ns bs e)
+taken_in : (bs : List Full) (i : ℕ) (u : Full) → i < length bs → take (i + 1) (set bs i u) ≡ take i bs ++ u ∷ []
+taken_in bs i u h = let next : i + 1 ≡ suc i = omega arith in ap (λ n. take n (set bs i u)) next ∙ taken_here bs i u h
 
-  none : due t (all_items (take i bs)) ≡ []
-  none = none_in_front t ns bs i e k.before (omega (arith, f.within)) f.first
+pub removed : (bs : List Full) (i : ℕ) (u : Full) → i < length bs → u.items ≡ [] → all_items (remove (set bs i u) i) ≡ all_items (set bs i u)
+removed [] i u h none = absurd (omega (arith, h))
+removed (c ∷ cs) zero u h none = rw none refl
+removed (c ∷ cs) (suc i) u h none = ap (λ es. c.items ++ es) (removed cs i u (omega (arith, h)) none)
 
-  pub block_taken : Taking t all start (all_items (set bs i u)) (all_lined_up (due t b.items) current)
-  block_taken =
-      part_taken t (all_items (take i bs)) b.items (all_items (drop (suc i) bs)) none all start current u.items (all_items bs) (all_items (set bs i u))
-      kept (cut bs i b within is) (put bs i u within) k
+front_kept : (bs : List Full) (i : ℕ) (u : Full) → i < length bs → take i (remove (set bs i u) i) ≡ take i bs
+front_kept [] i u h = absurd (omega (arith, h))
+front_kept (c ∷ cs) zero u h = refl
+front_kept (c ∷ cs) (suc i) u h = ap (λ ds. c ∷ ds) (front_kept cs i u (omega (arith, h)))
 
-  pub block_smaller : (length (all_items bs) + length u.items ≡ length (all_items (set bs i u)) + length b.items) × (length u.items < length b.items)
-  block_smaller =
-      let sizes = part_smaller t (all_items (take i bs)) b.items (all_items (drop (suc i) bs)) none u.items (all_items bs) (all_items (set bs i u))
-      kept (cut bs i b within is) (put bs i u within) in
-      let there : get_or ns i 0 ≡ t = f.there in
-      let least : least_time b.items ≡ Some t = sym (least_at ns bs i b e within is) ∙ (ap time_of there ∙ time_within t low) in
-      (sizes.0, omega (arith, sizes.1, some_due t b.items least))
+pub one_less : (bs : List Full) (i : ℕ) (u : Full) → i < length bs → length (remove (set bs i u) i) + 1 ≡ length bs
+one_less [] i u h = absurd (omega (arith, h))
+one_less (c ∷ cs) zero u h = omega arith
+one_less (c ∷ cs) (suc i) u h = omega (arith, one_less cs i u (omega (arith, h)))
 
--- where no block has the time as its least, none is due
-pub taking_end : (t : ℕ) (ns : List ℕ) (bs : List Full) (all : List Event) (start current : List Transaction) → AreLeasts ns bs →
-    ((k : ℕ) → k < length ns → get_or ns k 0 ≢ t) → Taking t all start (all_items bs) current →
-    (current ≡ all_lined_up (due t all) start) × (all_items bs ≡ filter (λ e. not (is_due t e)) all)
-taking_end t ns bs all start current e others k =
-    let front : take (length ns) bs ≡ bs = take_all (length ns) bs (omega (arith, same_long ns bs e)) in
-    let none : due t (all_items bs) ≡ [] =
-    ap (λ (cs : List Full). due t (all_items cs)) (sym front) ∙ none_in_front t ns bs (length ns) e k.before (omega arith) others in
-    (ap (λ xs. all_lined_up xs current) (sym none) ∙ k.come, sym (none_leaves t (all_items bs) none) ∙ k.stay)
+-- in the middle of a clock step: the blocks in front of an index are gone through, and what is the least time on them
+pub record Passed (t : ℕ) (all : List Event) (start : List Transaction) (bs : List Full) (i n : ℕ) (current : List Transaction) : Type 0 where
+  pub taking : Taking t all start (all_items bs) current
+  pub within : i ≤ length bs
+  pub none : due t (all_items (take i bs)) ≡ []
+  pub least : time_of n ≡ least_time (all_items (take i bs))
 
-pub taking_start : (t : ℕ) (all : List Event) (start : List Transaction) → IsNoneBefore t all → Taking t all start all start
-taking_start t all start before = record { stay = refl; come = refl; before = before }
+pub passing : (t : ℕ) (bs : List Full) (start : List Transaction) (least : ℕ) → IsNoneBefore t (all_items bs) → time_of least ≡ None →
+    Passed t (all_items bs) start bs 0 least start
+passing t bs start least before none = record {
+  taking = record { stay = refl; come = refl; before = before };
+  within = omega arith;
+  none = refl;
+  least = none;
+}
 
--- the blocks with the least time are the state's own
-cases_lt : (m n : ℕ) → (m < n) ⊎ (n ≤ m)
-cases_lt m n = grind arith
+module _ (t : ℕ) (all : List Event) (start : List Transaction) (bs : List Full) (i least : ℕ) (current : List Transaction)
+    (k : Passed t all start bs i least current) (b : Full) (within : i < length bs) (is : b ≡ get_or bs i b) where
+  pub before_block : IsNoneBefore t b.items
+  before_block =
+      let parts = subst (IsNoneBefore t) (cut bs i b within is) k.taking.before in
+      before_front t b.items (all_items (drop (suc i) bs)) (before_back t (all_items (take i bs)) (b.items ++ all_items (drop (suc i) bs)) parts)
 
-module _ (t : ℕ) (ns : List ℕ) (bs : List Full) where
-  pub own_start : (i : ℕ) → AreOthers t 0 i ns → AreOwn t i ns bs
-  own_start i others = λ k low within is. absurd (others k (omega arith) low is)
+  module _ (u : Full) (kept : u.items ≡ filter (λ e. not (is_due t e)) b.items) where
+    taken : Taking t all start (all_items (set bs i u)) (all_lined_up (due t b.items) current)
+    taken =
+        part_taken t (all_items (take i bs)) b.items (all_items (drop (suc i) bs)) k.none all start current u.items (all_items bs) (all_items (set bs i u))
+        kept (cut bs i b within is) (put bs i u within) k.taking
 
-  flag_set : (i : ℕ) (u : Full) (k : ℕ) → get_or (map (λ (b : Full). b.is_shared) (set bs i u)) k false ≡
-      get_or (set (map (λ (b : Full). b.is_shared) bs) i u.is_shared) k false
-  flag_set i u k = ap (λ (fs : List Bool). get_or fs k false) (map-set (λ (b : Full). b.is_shared) bs i u)
+    -- the block stays
+    pub block_stays : (n : ℕ) → time_of n ≡ least_time u.items → Passed t all start (set bs i u) (i + 1) (min least n) (all_lined_up (due t b.items) current)
+    block_stays n time =
+        let front : all_items (take (i + 1) (set bs i u)) ≡ all_items (take i bs) ++ u.items =
+        ap all_items (taken_in bs i u within) ∙ all_items_more (take i bs) u in
+        let gone : due t u.items ≡ [] = ap (due t) kept ∙ due_leave t b.items in
+        record {
+          taking = taken;
+          within = omega (arith, within, length-set bs i u);
+          none = ap (due t) front ∙ (due_append t (all_items (take i bs)) u.items ∙ rw (k.none, gone) refl);
+          least = least_both least n (all_items (take i bs)) u.items k.least time ∙ ap least_time (sym front);
+        }
 
-  flag_here : (i : ℕ) (u : Full) → i < length bs → get_or (map (λ (b : Full). b.is_shared) (set bs i u)) i false ≡ u.is_shared
-  flag_here i u h =
-      flag_set i u i ∙ get_or-set_same (map (λ (b : Full). b.is_shared) bs) i u.is_shared false (omega (arith, h, length-map bs (λ (b : Full). b.is_shared)))
+    -- the block goes
+    pub block_goes : u.items ≡ [] → Passed t all start (remove (set bs i u) i) i least (all_lined_up (due t b.items) current)
+    block_goes none =
+        let front : all_items (take i (remove (set bs i u) i)) ≡ all_items (take i bs) = ap all_items (front_kept bs i u within) in
+        record {
+          taking = subst (λ es. Taking t all start es (all_lined_up (due t b.items) current)) (sym (removed bs i u within none)) taken;
+          within = omega (arith, within, one_less bs i u within);
+          none = ap (due t) front ∙ k.none;
+          least = k.least ∙ ap least_time (sym front);
+        }
 
-  flag_there : (i : ℕ) (u : Full) (k : ℕ) → k ≢ i → get_or (map (λ (b : Full). b.is_shared) (set bs i u)) k false ≡
-      get_or (map (λ (b : Full). b.is_shared) bs) k false
-  flag_there i u k other = flag_set i u k ∙ get_or-set_other (map (λ (b : Full). b.is_shared) bs) i k u.is_shared false (omega (arith, other))
-
-  pub own_next : (i j : ℕ) (u : Full) → i < length bs → u.is_shared ≡ false → AreOwn t i ns bs → AreOthers t (i + 1) j ns → AreOwn t j ns (set bs i u)
-  own_next i j u h own before others = λ k low within is. elim (cases_eq k i) [
-    | inl same ↦ ap (λ n. get_or (map (λ (b : Full). b.is_shared) (set bs i u)) n false) same ∙ (flag_here i u h ∙ own)
-    | inr other ↦ elim (cases_lt k i) [
-      | inl less ↦ flag_there i u k other ∙ before k less within is
-      | inr more ↦ absurd (others k (omega (arith, more, other)) low is)
-    ]
-  ]
-
-  pub own_at : (i : ℕ) (b : Full) → AreOwn t (length ns) ns bs → i < length ns → i < length bs → get_or ns i 0 ≡ t → b ≡ get_or bs i b → b.is_shared ≡ false
-  own_at i b own within h now is =
-      ap (λ (c : Full). c.is_shared) is ∙ (sym (get_or-map (λ (c : Full). c.is_shared) bs i b false h) ∙ own i within within now)
-
-  pub own_set : (i n : ℕ) (u : Full) → i < length bs → u.is_shared ≡ false → AreOwn t (length ns) ns bs →
-      AreOwn t (length (set ns i n)) (set ns i n) (set bs i u)
-  own_set i n u h own before = λ k low within is. elim (cases_eq k i) [
-    | inl same ↦ ap (λ m. get_or (map (λ (b : Full). b.is_shared) (set bs i u)) m false) same ∙ (flag_here i u h ∙ own)
-    | inr other ↦
-        let under : k < length ns = omega (arith, within, length-set ns i n) in
-        flag_there i u k other ∙ before k under under (sym (get_or-set_other ns i k n 0 (omega (arith, other))) ∙ is)
-  ]
+pub passed_all : (t : ℕ) (all : List Event) (start : List Transaction) (bs : List Full) (i least : ℕ) (current : List Transaction) →
+    Passed t all start bs i least current → length bs ≤ i →
+    (current ≡ all_lined_up (due t all) start) × (all_items bs ≡ filter (λ e. not (is_due t e)) all) × (time_of least ≡ least_time (all_items bs))
+passed_all t all start bs i least current k end =
+    let whole : take i bs ≡ bs = take_all i bs end in
+    let none : due t (all_items bs) ≡ [] = ap (λ (cs : List Full). due t (all_items cs)) (sym whole) ∙ k.none in (
+      ap (λ xs. all_lined_up xs current) (sym none) ∙ k.taking.come,
+      sym (none_leaves t (all_items bs) none) ∙ k.taking.stay,
+      k.least ∙ ap (λ (cs : List Full). least_time (all_items cs)) whole,
+    )

@@ -1,6 +1,6 @@
 -- The future chain in blocks. (Our own: it says how the chain is kept, and nothing of what it holds.)
-use Rattle.std.specs.Prelude.{◌≡◌, ◌≢◌, ℕ, ◌+◌, ◌<◌, ◌≤◌, ◌==◌, List, [], ◌∷◌, ◌++◌, Option, Some, None, Bool, false}
-use Rattle.std.specs.Prelude.{length, map, get_or, nat_le, nat_lt, is_some, unwrap_or, pos, if◌then◌else◌}
+use Rattle.std.specs.Prelude.{◌≡◌, ℕ, ◌+◌, ◌≤◌, ◌==◌, List, [], ◌∷◌, ◌++◌, Option, Some, None}
+use Rattle.std.specs.Prelude.{length, filter, is_some, nat_le, nat_lt, unwrap_or, pos, if◌then◌else◌}
 use Rattle.slab.specs.Slab.{Slab, get}
 use Rattle.gw_meaning.specs.declared.transaction.Transaction.{Transaction}
 use Rattle.gw_meaning.specs.declared.transaction.Event.{Event}
@@ -45,41 +45,25 @@ pub record IsBlock (slab : Slab Transaction) (ts ks : List ℕ) (ticks : ℕ) : 
   pub times : AreTimes ts
   pub least : least_time (events_of slab ts ks) ≡ time_of ticks
 
+-- those from a time on
+abbrev pub since : ℕ → List Event → List Event
+since from events = filter (λ (e : Event). nat_le from e.time) events
+
+-- those after a time
+abbrev pub after : ℕ → List Event → List Event
+after time events = filter (λ (e : Event). nat_lt time e.time) events
+
 -- a full block, which takes no more
 pub record Full : Type 0 where
-  -- what is on it, in order
+  -- what is still on it, in order
   pub items : List Event
-  -- whether copies of the state may share it
-  pub is_shared : Bool
 
 -- what is on blocks, one after the other
 abbrev pub all_items : List Full → List Event
 all_items [] = []
 all_items (b ∷ bs) = b.items ++ all_items bs
 
--- the least time of each block, where anything is on it
-abbrev pub least_times : List Full → List (Option ℕ)
-least_times blocks = map (λ (b : Full). least_time b.items) blocks
-
--- these numbers are the least times of the blocks, in ticks: one that is later than any time stands for none
-abbrev pub AreLeasts : List ℕ → List Full → Type 0
-AreLeasts leasts blocks = map time_of leasts ≡ least_times blocks
-
--- whether anything is on a block
-abbrev pub is_in_use : Full → Bool
-is_in_use b = nat_lt 0 (length b.items)
-
 -- none of these comes before a time
 abbrev pub IsNoneBefore : ℕ → List Event → Type 0
 IsNoneBefore time [] = Unit {0}
 IsNoneBefore time (e ∷ es) = (time ≤ e.time) × IsNoneBefore time es
-
--- of the blocks in front of an index those with this least time are the state's own
-abbrev pub AreOwn : ℕ → ℕ → List ℕ → List Full → Type 0
-AreOwn time to leasts blocks =
-    (k : ℕ) → k < to → k < length leasts → get_or leasts k 0 ≡ time →
-    get_or (map (λ (b : Full). b.is_shared) blocks) k false ≡ false
-
--- of these numbers none from one index on and in front of another is this
-abbrev pub AreOthers : ℕ → ℕ → ℕ → List ℕ → Type 0
-AreOthers number from to numbers = (k : ℕ) → from ≤ k → k < to → get_or numbers k 0 ≢ number

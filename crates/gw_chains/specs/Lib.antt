@@ -3,6 +3,5 @@ pub use Rattle.gw_meaning.specs.Changes
 pub use Rattle.gw_meaning.specs.Step
 pub mod Chains
 pub mod Blocks
-pub mod Forms
 pub mod Delays
 pub mod UserChains

@@ -3,7 +3,7 @@ ghost use Rattle.std.specs.Prelude.{slice_get, option_to_list, IfOk, OnOk, IfNon
 ghost use Rattle.gw_meaning.specs.Changes.{all_lined_up, due, is_due};
 ghost use Rattle.gw_meaning.specs.Step.{least_time};
 ghost use Rattle.gw_lanes.specs.Least.{least};
-ghost use Rattle.gw_chains.specs.Blocks.{time_of};
+ghost use Rattle.gw_chains.specs.Blocks.{time_of, after};
 
 use crate::chain::PriorityChain;
 use gw_lanes::{first_at, least};
@@ -80,7 +80,7 @@ impl Block {
     }
 
     // The transaction at an index, with its time.
-    fn event(&self, index: usize) -> Event
+    pub(crate) fn event(&self, index: usize) -> Event
         requires { index < length self.now.items }
         ensures { slice_get self.now.items index ≡ Some result }
     {
@@ -157,6 +157,28 @@ impl Block {
         Some(self.transactions.remove(key))
     }
 
+    // Appends the transactions of a time to the current chain, in the order in which they came. They stay on the block.
+    // Returns the least time after that one, and [`BEYOND`] where there is none.
+    pub(crate) fn line_up_due(&self, current: &mut PriorityChain, time: Time) -> u64
+        requires { length (due time self.now.items) ≤ current.old.room }
+        ensures current { current.new.items ≡ all_lined_up (due time self.now.items) current.old.items }
+        ensures room { current.old.room ≤ current.new.room + length (due time self.now.items) }
+        ensures least { time_of result ≡ least_time (after time self.now.items) }
+        ensures later { time < result }
+    {
+        let now = time.ticks();
+        let mut least = BEYOND;
+        for index in 0..self.len() {
+            let ticks = self.times[index];
+            if ticks == now {
+                current.line_up_ref(&self.transactions[self.keys[index]]);
+            } else if ticks > now {
+                least = least.min(ticks);
+            }
+        }
+        least
+    }
+
     // An equal block.
     pub(crate) fn copy(&self) -> Result<Block, AllocError>
         ensures { IfOk result (λ b. b.items ≡ self.now.items) }
@@ -173,8 +195,8 @@ impl Block {
     }
 }
 
-/// The least of times, and [`BEYOND`] where there is none.
-pub(crate) fn least_of(times: &[u64]) -> u64
+// The least of times, and [`BEYOND`] where there is none.
+fn least_of(times: &[u64]) -> u64
     ensures { result ≡ unwrap_or (least times.now) (2 ^ 64 - 1) }
 {
     match least(times) {

@@ -1,7 +1,6 @@
 mod Things
 mod Sifted
 mod Kept
+mod Ordered
+mod Grouped
 mod Waiters
-mod Passing
-mod Turning
-mod Concerned

@@ -24,9 +24,6 @@ thing_same (watched.Entity j k) (watched.Counts n) h = absurd cc
 thing_same (watched.Counts m) (watched.Entity l k) h = absurd cc
 thing_same (watched.Counts m) (watched.Counts n) h = ap (λ id. watched.Counts id) (eqb-true m n h)
 
-pub thing_itself : (w : Watched) → same_watched w w ≡ true
-thing_itself w = laws.laws-law.refl w
-
 pub thing_turned : (v w : Watched) → same_watched v w ≡ same_watched w v
 thing_turned v w = laws.laws-law.symm v w
 

@@ -1,4 +1,5 @@
 pub mod Readings
 pub mod Kept
+pub mod Arrivals
+pub mod Groups
 pub mod Waiting
-pub mod Concerned

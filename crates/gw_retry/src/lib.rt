@@ -1,8 +1,10 @@
 //! Who waits for a change of something that its refused attempt read, in order of waiting.
 //!
-//! All that grows is reserved first, so a refused growth changes nothing that is seen.
+//! What is written wakes all who read the same list, or none of them. So they lie group by group, and a wake asks each
+//! list once. All that grows is reserved first, so a refused growth changes nothing that is seen.
 #![tactic(auto)]
 
+mod groups;
 mod laying;
 mod lists;
 mod readings;

@@ -1,11 +1,13 @@
-ghost use Rattle.std.specs.Prelude.{◌≡◌, ◌==◌, ◌≤◌, ◌<◌, ◌^◌, ◌++◌, ◌∷◌, [], Some, not, length, filter, slice_get, option_map, IfOk, OnOk, OnErr, IsTrue};
+ghost use Rattle.std.specs.Prelude.{◌≡◌, ◌==◌, ◌≤◌, ◌<◌, ◌^◌, ◌++◌, ◌∷◌, [], not, length, filter};
+ghost use Rattle.std.specs.Prelude.{IfOk, OnOk, OnErr, IsTrue};
 ghost use Rattle.gw_meaning.specs.declared.watched.Watched.{Watched};
 ghost use Rattle.gw_meaning.specs.Watching.{Waiter, is_watched, transactions_of};
 ghost use Rattle.gw_meaning.specs.Changes.{is_woken, all_lined_up};
 
+use crate::groups::join;
 use crate::laying::lay_anew;
 use crate::readings::SharedReadings;
-use crate::waking::{count_woken, take_woken};
+use crate::waking::{count_woken, line_up_all, sort_by_order, take_woken};
 use gw_chains::PriorityChain;
 use gw_expr::Row;
 use gw_meaning::{Transaction, Watched};
@@ -18,36 +20,41 @@ use std::slice;
 /// read or woken since the last time that laying them out anew costs no more than that did.
 const MANY: usize = 32;
 
-/// If more than one of so many is woken, they are more than a few.
-const SHARE: usize = 128;
-
 /// Who waits for a change of something that its attempt read, in order of waiting. Copies share what did not change.
 #[derive(Drop)]
 pub struct Retry {
+    // Group by group, in order of the places, and of each group in order of coming.
     waiting: SharedList<Waiting>,
     // Many read the same, so what was read is kept once, and each waiter has its place. A thing that no waiter read is
-    // mostly told without going over the waiters: what they read is marked.
+    // mostly told without asking the lists: what they read is marked.
     readings: SharedReadings,
+    // The order of the next one who comes.
+    next: u64,
+    // Where those who are woken are put in order of coming. It is empty but then.
+    going: Vec<Waiting>,
 }
 
-/// Who waits, and the place of the list of what it read.
+/// A waiting transaction, the place of the list of what it read, and the order in which it came.
 #[derive(Clone, Copy)]
 pub struct Waiting {
     pub transaction: Transaction,
     pub place: usize,
+    pub order: u64,
 }
 
 impl Model for Retry {
-    ghost use Rattle.gw_retry.specs.Waiting.{Retrying, waiters_of, AreListed};
+    ghost use Rattle.std.specs.Prelude.{◌≡◌, [], min, vec_len, vec_capacity};
+    ghost use Rattle.gw_retry.specs.Waiting.{Retrying, waiters_of, AreKept};
 
     ghost Value = { Retrying };
 
     ghost view = { λ r. record {
       waiters = waiters_of r.readings.lists r.waiting.items;
-      room = r.waiting.room;
+      room = min r.waiting.room (vec_capacity r.going);
     } };
 
-    ghost invariant = { λ r. AreListed r.readings r.waiting.items };
+    ghost invariant = { λ r. AreKept r.readings r.next r.waiting.items
+        × (r.going.items ≡ []) × (vec_len r.going ≡ 0) };
 }
 
 impl Retry {
@@ -58,6 +65,8 @@ impl Retry {
         Retry {
             waiting: SharedList::new(alloc),
             readings: SharedReadings::new(alloc),
+            next: 0,
+            going: Vec::new(alloc),
         }
     }
 
@@ -77,14 +86,6 @@ impl Retry {
         self.waiting.is_empty()
     }
 
-    /// The transaction that waits at an index, in order of waiting.
-    pub fn transaction(&self, index: usize) -> &Transaction
-        requires { index < length self.now.waiters }
-        ensures { option_map (λ (w : Waiter). w.transaction) (slice_get self.now.waiters index) ≡ Some result.now }
-    {
-        &self.waiting.at(index).transaction
-    }
-
     /// How many waiters read a thing.
     pub fn count(&self, thing: &Watched) -> usize
         ensures { result ≡ length (filter (λ (w : Waiter). is_watched w.read thing.now) self.now.waiters) }
@@ -102,7 +103,7 @@ impl Retry {
         count_woken(&self.waiting, &self.readings, written)
     }
 
-    // Whether it is clear, without going over the waiters, that nobody read anything that is written.
+    // Whether it is clear, without asking the lists, that nobody read anything that is written.
     #[inline(always)]
     fn is_untouched(&self, written: &[Watched]) -> bool
         ensures { IsTrue result → filter (is_woken written.now) self.now.waiters ≡ [] }
@@ -120,12 +121,18 @@ impl Retry {
         ensures err { OnErr result (self.new.waiters ≡ self.old.waiters) }
     {
         self.forget_read()?;
+        if self.next == u64::MAX {
+            return Err(AllocError);
+        }
         self.waiting.reserve(1)?;
         let place = self.readings.add(read)?;
-        self.waiting.push(Waiting {
+        let waiter = Waiting {
             transaction: x,
             place,
-        });
+            order: self.next,
+        };
+        join(&mut self.waiting, waiter);
+        self.next += 1;
         Ok(())
     }
 
@@ -166,13 +173,8 @@ impl Retry {
     {
         let count = count_woken(&self.waiting, &self.readings, written);
         self.readings.make_own()?;
-        // Where more than a few go, all are gone over and laid out anew.
-        let room = if count > self.waiting.len() / SHARE {
-            self.waiting.len().max(count)
-        } else {
-            count
-        };
-        self.waiting.reserve(room)?;
+        self.going.reserve(count)?;
+        self.waiting.reserve(count)?;
         Ok(count)
     }
 
@@ -201,11 +203,15 @@ impl Retry {
             all_lined_up (transactions_of (filter (is_woken written.now) self.old.waiters)) current.old.items }
         ensures waiters { self.new.waiters ≡ filter (λ w. not (is_woken written.now w)) self.old.waiters }
     {
-        take_woken(&mut self.waiting, &self.readings, written, current);
+        take_woken(&mut self.waiting, &self.readings, written, &mut self.going);
+        sort_by_order(&mut self.going);
+        line_up_all(self.going.as_slice(), current);
+        self.going.clear();
         self.readings.unmark(written);
     }
 
-    /// Copies share from now on what it holds now. Its room is gone, but the waiters stay, also where memory is refused.
+    /// Copies share from now on what it holds now. Its room is gone, but the waiters stay, also where memory is
+    /// refused.
     ///
     /// # Errors
     ///
@@ -227,6 +233,11 @@ impl Retry {
     {
         let waiting = self.waiting.copy()?;
         let readings = self.readings.copy()?;
-        Ok(Retry { waiting, readings })
+        Ok(Retry {
+            waiting,
+            readings,
+            next: self.next,
+            going: Vec::new(self.readings.allocator()),
+        })
     }
 }

@@ -39,7 +39,6 @@ impl Parts {
         self.delays.share()?;
         self.retry.share()?;
         self.linked.share()?;
-        self.future.share()?;
         self.entities.share()?;
         self.parameters.share()
     }

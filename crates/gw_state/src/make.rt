@@ -139,7 +139,7 @@ impl Parts {
         ensures err { OnErr result (machine_of self.new ≡ machine_of self.old) }
     {
         self.current.reserve(self.future.len())?;
-        self.future.take_due(&mut self.current, clock.time())?;
+        self.future.take_due(&mut self.current, clock.time());
         self.entities.go_on(self.clocks.clock(), clock);
         self.clocks.advance(clock);
         Ok(())

@@ -1,76 +1,102 @@
-use Rattle.std.proofs.Common.{◌<◌, ◌≤◌, length, arith}
+use Rattle.std.proofs.Common.{◌<◌, length, length-set, arith, refl, ap}
 use Rattle.gw_chains.specs.Blocks.{all_items}
-use Rattle.gw_chains.proofs.BlockLaws.{first_in}
-use Rattle.gw_chains.proofs.Leasts.{same_long, leasts_set, others_all}
-use Rattle.gw_chains.proofs.FutureLaws.{on_block, block_taken, block_smaller, taking_start, taking_end, own_at, own_set}
+use Rattle.gw_chains.proofs.Leasts.{nobody_there}
+use Rattle.gw_chains.proofs.FutureLaws.{on_block, one_less, passing, before_block, sizes, block_stays, block_goes, removed, passed_all}
 use Rattle.gw_chains.proofs.future.take_from_full.Goals as goal
 
 pub loop-index-init : goal.loop-index-init
 loop-index-init c = record {
-  taking = taking_start c.args.time (all_items c.args.blocks.now.items) c.args.current.now.items c.requires.before;
-  leasts = c.requires.leasts;
-  own = c.requires.own;
+  passed = passing c.args.time c.args.blocks.now.items c.args.current.now.items 18446744073709551615 c.requires.before refl;
   room = c.requires.room;
   taken = omega arith;
 }
 
-pub take_due-requires-clause-room : goal.take_due-requires-clause-room
-take_due-requires-clause-room c =
-    let h = c.loop-index.invariant in
-    let f = first_in c.ticks.ensures.value c.deref.ensures.value c.in-Some.ensures.found in
-    let within : c.in-Some.index < length c.loop-index.blocks.items =
-    omega (arith, f.within, same_long c.loop-index.leasts.items c.loop-index.blocks.items h.leasts) in
-    omega (arith, h.room, on_block c.loop-index.blocks.items c.in-Some.index c.index_mut.result.now within c.index_mut.ensures.value)
+pub take_due-stay-requires-clause-room : goal.take_due-stay-requires-clause-room
+take_due-stay-requires-clause-room c =
+    let bs = c.loop-index.blocks.items in
+    let within : c.loop-index.index < length bs = omega (arith, c.loop-index-test.true, c.len.ensures) in
+    omega (arith, c.loop-index.invariant.room, on_block bs c.loop-index.index c.index_mut.result.now within c.index_mut.ensures.value)
 
-pub take_due-requires-clause-own : goal.take_due-requires-clause-own
-take_due-requires-clause-own c =
+pub take_due-stay-requires-clause-before : goal.take_due-stay-requires-clause-before
+take_due-stay-requires-clause-before c =
+    let bs = c.loop-index.blocks.items in
+    let within : c.loop-index.index < length bs = omega (arith, c.loop-index-test.true, c.len.ensures) in
+    before_block c.args.time (all_items c.args.blocks.now.items) c.args.current.now.items bs c.loop-index.index c.loop-index.least
+    c.loop-index.current.items c.loop-index.invariant.passed c.index_mut.result.now within c.index_mut.ensures.value
+
+pub loop-index-smaller-then-stay : goal.loop-index-smaller-then-stay
+loop-index-smaller-then-stay c =
+    let bs = c.loop-index.blocks.items in
+    let i = c.loop-index.index in
+    let within : i < length bs = omega (arith, c.loop-index-test.true, c.len.ensures) in
+    omega (arith, within, ap length c.remove.ensures.items, one_less bs i c.take_due-stay.new.self within)
+
+pub loop-index-preserved-then-stay : goal.loop-index-preserved-then-stay
+loop-index-preserved-then-stay c =
+    let bs = c.loop-index.blocks.items in
+    let i = c.loop-index.index in
+    let b = c.index_mut.result.now in
+    let u = c.take_due-stay.new.self in
     let h = c.loop-index.invariant in
-    let f = first_in c.ticks.ensures.value c.deref.ensures.value c.in-Some.ensures.found in
-    own_at c.args.time c.loop-index.leasts.items c.loop-index.blocks.items c.in-Some.index c.index_mut.result.now h.own f.within
-    (omega (arith, f.within, same_long c.loop-index.leasts.items c.loop-index.blocks.items h.leasts)) f.there c.index_mut.ensures.value
+    let all = all_items c.args.blocks.now.items in
+    let start = c.args.current.now.items in
+    let within : i < length bs = omega (arith, c.loop-index-test.true, c.len.ensures) in
+    let kept = c.take_due-stay.ensures.future in
+    let nobody = nobody_there c.take_due-stay.result u.items c.take_due-stay.ensures.least c.if-stay.true in
+    let size = sizes bs i b u within c.index_mut.ensures.value in
+    let same = removed bs i u within nobody in
+    record {
+      passed = rw (c.remove.ensures.items, c.take_due-stay.ensures.current)
+          (block_goes c.args.time all start bs i c.loop-index.least c.loop-index.current.items h.passed b within c.index_mut.ensures.value u kept nobody);
+      room = omega (arith, h.room, size, c.take_due-stay.ensures.room, ap (λ cs. length (all_items cs)) c.remove.ensures.items, ap length same);
+      taken = omega (arith, h.taken, size, c.take_due-stay.ensures.room, ap (λ cs. length (all_items cs)) c.remove.ensures.items, ap length same);
+    }
 
 pub loop-index-smaller : goal.loop-index-smaller
 loop-index-smaller c =
-    let h = c.loop-index.invariant in
-    let f = first_in c.ticks.ensures.value c.deref.ensures.value c.in-Some.ensures.found in
-    let low : c.args.time ≤ 1001000000000 = omega (arith, c.ticks.ensures.value, c.ticks.ensures.bound) in
-    let sizes = block_smaller c.args.time c.loop-index.leasts.items c.loop-index.blocks.items c.in-Some.index c.index_mut.result.now c.take_due.new.self
-    (all_items c.args.blocks.now.items) c.args.current.now.items c.loop-index.current.items h.leasts f low c.index_mut.ensures.value
-    c.take_due.ensures.future h.taking in
-    omega (arith, sizes.0, sizes.1)
+    let bs = c.loop-index.blocks.items in
+    omega (arith, c.loop-index-test.true, c.len.ensures, length-set bs c.loop-index.index c.take_due-stay.new.self)
 
 pub loop-index-preserved : goal.loop-index-preserved
 loop-index-preserved c =
-    let h = c.loop-index.invariant in
-    let ns = c.loop-index.leasts.items in
     let bs = c.loop-index.blocks.items in
-    let i = c.in-Some.index in
-    let f = first_in c.ticks.ensures.value c.deref.ensures.value c.in-Some.ensures.found in
-    let low : c.args.time ≤ 1001000000000 = omega (arith, c.ticks.ensures.value, c.ticks.ensures.bound) in
-    let sizes = block_smaller c.args.time ns bs i c.index_mut.result.now c.take_due.new.self
-    (all_items c.args.blocks.now.items) c.args.current.now.items c.loop-index.current.items h.leasts f low c.index_mut.ensures.value
-    c.take_due.ensures.future h.taking in
+    let i = c.loop-index.index in
+    let b = c.index_mut.result.now in
+    let u = c.take_due-stay.new.self in
+    let h = c.loop-index.invariant in
+    let all = all_items c.args.blocks.now.items in
+    let start = c.args.current.now.items in
+    let within : i < length bs = omega (arith, c.loop-index-test.true, c.len.ensures) in
+    let kept = c.take_due-stay.ensures.future in
+    let size = sizes bs i b u within c.index_mut.ensures.value in
     record {
-      taking = rw c.take_due.ensures.current (block_taken c.args.time ns bs i c.index_mut.result.now c.take_due.new.self
-          (all_items c.args.blocks.now.items) c.args.current.now.items c.loop-index.current.items h.leasts f low c.index_mut.ensures.value
-          c.take_due.ensures.future h.taking);
-      leasts = leasts_set ns bs i c.take_due.result c.take_due.new.self h.leasts c.take_due.ensures.least;
-      own = own_set c.args.time ns bs i c.take_due.result c.take_due.new.self (omega (arith, f.within, same_long ns bs h.leasts))
-          c.take_due.ensures.own h.own;
-      room = omega (arith, h.room, sizes.0, c.take_due.ensures.room);
-      taken = omega (arith, h.taken, sizes.0, c.take_due.ensures.room);
+      passed = rw (c.min-least.ensures, c.take_due-stay.ensures.current)
+          (block_stays c.args.time all start bs i c.loop-index.least c.loop-index.current.items h.passed b within c.index_mut.ensures.value u kept
+          c.take_due-stay.result c.take_due-stay.ensures.least);
+      room = omega (arith, h.room, size, c.take_due-stay.ensures.room);
+      taken = omega (arith, h.taken, size, c.take_due-stay.ensures.room);
     }
 
 pub returns-clause-current : goal.returns-clause-current
 returns-clause-current c =
-    let h = c.loop-index.invariant in
-    let end = taking_end c.args.time c.loop-index.leasts.items c.loop-index.blocks.items (all_items c.args.blocks.now.items) c.args.current.now.items
-    c.loop-index.current.items h.leasts (others_all c.ticks.ensures.value c.deref.ensures.value c.in_default.ensures.nowhere) h.taking in
+    let bs = c.loop-index.blocks.items in
+    let end = passed_all c.args.time (all_items c.args.blocks.now.items) c.args.current.now.items bs c.loop-index.index c.loop-index.least
+    c.loop-index.current.items c.loop-index.invariant.passed (omega (arith, c.loop-index-test.false, c.len.ensures)) in
     end.0
 
 pub returns-clause-future : goal.returns-clause-future
 returns-clause-future c =
-    let h = c.loop-index.invariant in
-    let end = taking_end c.args.time c.loop-index.leasts.items c.loop-index.blocks.items (all_items c.args.blocks.now.items) c.args.current.now.items
-    c.loop-index.current.items h.leasts (others_all c.ticks.ensures.value c.deref.ensures.value c.in_default.ensures.nowhere) h.taking in
+    let bs = c.loop-index.blocks.items in
+    let end = passed_all c.args.time (all_items c.args.blocks.now.items) c.args.current.now.items bs c.loop-index.index c.loop-index.least
+    c.loop-index.current.items c.loop-index.invariant.passed (omega (arith, c.loop-index-test.false, c.len.ensures)) in
     end.1
+
+pub returns-clause-room : goal.returns-clause-room
+returns-clause-room c = omega (arith, c.loop-index.invariant.taken)
+
+pub returns-clause-least : goal.returns-clause-least
+returns-clause-least c =
+    let bs = c.loop-index.blocks.items in
+    let end = passed_all c.args.time (all_items c.args.blocks.now.items) c.args.current.now.items bs c.loop-index.index c.loop-index.least
+    c.loop-index.current.items c.loop-index.invariant.passed (omega (arith, c.loop-index-test.false, c.len.ensures)) in
+    end.2

@@ -1,43 +1,69 @@
-use Rattle.std.proofs.Common.{◌+◌, ◌<◌, ◌≤◌, length, ap, arith}
-use Rattle.std.proofs.lemmas.List.{drop_all}
-use Rattle.gw_retry.proofs.Concerned.{skipped, one_counted}
-use Rattle.gw_retry.proofs.Passing.{woken_of}
+use Rattle.std.proofs.Common.{◌≡◌, ◌+◌, ◌≤◌, ◌<◌, ◌&&◌, true, false, nat_lt, length, [], sym, ap, ◌∙◌, arith}
+use Rattle.std.specs.Prelude.{unwrap_or}
+use Rattle.std.specs.List.{All, list_any}
+use Rattle.std.proofs.lemmas.List.Elements.{All-weaker}
+use Rattle.std.proofs.lemmas.List.Sums.{length-filter, count_by-le-length}
+use Rattle.std.proofs.lemmas.Option.{slice_get_within}
+use Rattle.gw_meaning.specs.Watching.{is_watched}
+use Rattle.gw_retry.specs.declared.retry.Waiting.{Waiting}
+use Rattle.gw_retry.specs.Waiting.{is_written, IsListed}
+use Rattle.gw_retry.proofs.Grouped.{count_start, count_same, count_next, count_all, goes_below}
 use Rattle.gw_retry.proofs.waking.count_woken.Goals as goal
+use Rattle.gw_retry.proofs.waking.count_woken.Goals.{then-is_written, else-is_written}
 
-pub loop-index-init : goal.loop-index-init
-loop-index-init c =
-    let n = c.next_woken-index.ensures in
-    record {
-      within = n.within.1;
-      next = n.next;
-      count = omega (
-        arith,
-        ap length (skipped c.args.readings.now c.args.written.now c.args.waiting.now.items 0 c.next_woken-index.result n.within.0
-            n.within.1 n.passed),
-      );
-      bound = omega arith;
-    }
+pub loop-place-init : goal.loop-place-init
+loop-place-init c = record {
+  count = count_start (is_written c.args.readings.now.lists c.args.written.now) c.args.waiting.now.items;
+  end = c.len-place-end.ensures;
+}
 
-pub loop-index-preserved : goal.loop-index-preserved
-loop-index-preserved c =
-    let r = c.args.readings.now in
+pub overflow_add-count : goal.overflow_add-count
+overflow_add-count c =
+    let lists = c.args.readings.now.lists in
     let written = c.args.written.now in
-    let items = c.args.waiting.now.items in
-    let i = c.loop-index.index in
-    let was = c.loop-index.invariant in
-    let n = c.next_woken-index-in-loop-index.ensures in
-    let within : i < length items = omega (arith, c.len.ensures.len, c.loop-index-test.true) in
-    let skip = skipped r written items (i + 1) c.next_woken-index-in-loop-index.result n.within.0 n.within.1 n.passed in
-    record {
-      within = n.within.1;
-      next = n.next;
-      count = omega (arith, was.count, one_counted r written items i within was.next, ap length skip);
-      bound = omega (arith, was.bound, n.within.0);
-    }
+    let ws = c.args.waiting.now.items in
+    let place = c.loop-place.place in
+    let now : is_written lists written place ≡ true =
+    ap (λ o. list_any (is_watched written) (unwrap_or o [])) c.list.ensures ∙ (sym c.is_written.ensures ∙ c.if-is_written.true) in
+    let test = goes_below (is_written lists written) (place + 1) in
+    omega (
+      arith,
+      c.loop-place.invariant.count,
+      count_next (is_written lists written) place ws now,
+      length-filter test ws,
+      count_by-le-length test ws,
+      c.count_group-count.ensures.count,
+      c.count_group-count.ensures.bound,
+    )
+
+pub loop-place-preserved : goal.loop-place-preserved
+loop-place-preserved c =
+    let lists = c.args.readings.now.lists in
+    let written = c.args.written.now in
+    let ws = c.args.waiting.now.items in
+    let place = c.loop-place.place in
+    let was = c.loop-place.invariant in
+    let read : is_written lists written place ≡ list_any (is_watched written) c.list.result.now =
+    ap (λ o. list_any (is_watched written) (unwrap_or o [])) c.list.ensures in
+    elim c.if-is_written.branch [
+      | then-is_written w ↦
+          let now : is_written lists written place ≡ true = read ∙ (sym c.is_written.ensures ∙ w.if-is_written.true) in
+          rw w.count-is record {
+            count = omega (arith, was.count, count_next (is_written lists written) place ws now, w.count_group-count.ensures.count);
+            end = was.end;
+          }
+      | else-is_written w ↦
+          let now : is_written lists written place ≡ false = read ∙ (sym c.is_written.ensures ∙ w.if-is_written.false) in
+          rw w.count-is record { count = was.count ∙ count_same (is_written lists written) place ws now; end = was.end }
+    ]
 
 pub returns : goal.returns
 returns c =
-    let items = c.args.waiting.now.items in
-    let end : length items ≤ c.loop-index.index = omega (arith, c.len.ensures.len, c.loop-index-test.false) in
-    let none = ap (λ ws. length (woken_of c.args.readings.now.lists c.args.written.now ws)) (drop_all c.loop-index.index items end) in
-    omega (arith, c.loop-index.invariant.count, none)
+    let r = c.args.readings.now in
+    let ws = c.args.waiting.now.items in
+    let place = c.loop-place.place in
+    let end : length r.lists ≤ place = omega (arith, c.loop-place.invariant.end, c.loop-place-test.false) in
+    let below : All (λ (w : Waiting). w.place < place) ws =
+    All-weaker (IsListed r) (λ (w : Waiting). w.place < place)
+    (λ w h. omega (arith, end, slice_get_within r.lists w.place h.list h.there)) ws c.requires.listed in
+    c.loop-place.invariant.count ∙ ap length (count_all (is_written r.lists c.args.written.now) place ws below)

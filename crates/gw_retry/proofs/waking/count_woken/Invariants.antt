@@ -1,16 +1,11 @@
-use Rattle.std.proofs.Common.{◌≡◌, ◌+◌, ◌≤◌, ◌-◌, length, drop}
-use Rattle.gw_retry.specs.Concerned.{IsConcernedAt}
-use Rattle.gw_retry.proofs.Passing.{woken_of}
+use Rattle.std.proofs.Common.{◌≡◌, length}
+use Rattle.gw_retry.specs.Waiting.{is_written}
+use Rattle.gw_retry.proofs.Grouped.{counted}
 use Rattle.gw_retry.proofs.waking.count_woken.Given as goal
 
-abbrev pub invariant-loop-index : goal.invariant-loop-index
-invariant-loop-index l = record {
-  within : l.index ≤ length l.waiting.items;
-  next : IsConcernedAt l.readings.lists l.written l.waiting.items l.index;
-  count : l.count + length (woken_of l.readings.lists l.written (drop l.index l.waiting.items)) ≡ length
-      (woken_of l.readings.lists l.written l.waiting.items);
-  bound : l.count ≤ l.index;
+-- those of the groups in front are counted
+abbrev pub invariant-loop-place : goal.invariant-loop-place
+invariant-loop-place l = record {
+  count : l.count ≡ length (counted (is_written l.readings.lists l.written) l.place l.waiting.items);
+  end : l.place-end ≡ length l.readings.lists;
 }
-
-abbrev pub decreases-loop-index : goal.decreases-loop-index
-decreases-loop-index l = length l.waiting.items - l.index

@@ -5,46 +5,48 @@ use Rattle.gw_chains.proofs.EventLaws.{none_before, before_front}
 use Rattle.gw_chains.proofs.FutureLaws.{stepped}
 use Rattle.gw_chains.proofs.future.FutureChain.take_due.Goals as goal
 
-pub take_from_full-requires-clause-before : goal.take_from_full-requires-clause-before
-take_from_full-requires-clause-before c =
+pub take_from_full-self-inside-requires-clause-before : goal.take_from_full-self-inside-requires-clause-before
+take_from_full-self-inside-requires-clause-before c =
     let t = c.args.time in
     let whole = subst (IsNoneBefore t) (sym (ap (λ s. s.items) c.self.view_is)) (none_before t c.args.self.now.items c.requires.least) in
-    subst (IsNoneBefore t) (sym c.get_ready.ensures.items) (before_front t (all_items c.self.inside.full.items) c.self.inside.last.items whole)
+    before_front t (all_items c.self.inside.full.items) c.self.inside.last.items whole
 
 pub overflow_sub-self : goal.overflow_sub-self
 overflow_sub-self c =
-    let s = stepped c.args.time (all_items c.self.inside.full.items) c.self.inside.last.items (all_items c.get_ready.new.blocks.items)
-    (all_items c.drop_empty.new.blocks.items) c.take_due.new.self.items c.args.current.now.items c.take_from_full.new.current.items
-    c.take_due.new.current.items c.get_ready.ensures.items c.take_from_full.ensures.current (c.drop_empty.ensures.blocks ∙ c.take_from_full.ensures.future)
-    c.take_due.ensures.current c.take_due.ensures.future in
+    let s = stepped c.args.time (all_items c.self.inside.full.items) c.self.inside.last.items (all_items c.take_from_full-self-inside.new.blocks.items)
+    c.take_due.new.self.items c.args.current.now.items c.take_from_full-self-inside.new.current.items c.take_due.new.current.items
+    c.take_from_full-self-inside.ensures.current c.take_from_full-self-inside.ensures.future c.take_due.ensures.current c.take_due.ensures.future in
     omega (arith, s.more, c.len-before.ensures.len, c.len.ensures.len)
 
 pub overflow_sub-self-2 : goal.overflow_sub-self-2
 overflow_sub-self-2 c =
-    let s = stepped c.args.time (all_items c.self.inside.full.items) c.self.inside.last.items (all_items c.get_ready.new.blocks.items)
-    (all_items c.drop_empty.new.blocks.items) c.take_due.new.self.items c.args.current.now.items c.take_from_full.new.current.items
-    c.take_due.new.current.items c.get_ready.ensures.items c.take_from_full.ensures.current (c.drop_empty.ensures.blocks ∙ c.take_from_full.ensures.future)
-    c.take_due.ensures.current c.take_due.ensures.future in
+    let s = stepped c.args.time (all_items c.self.inside.full.items) c.self.inside.last.items (all_items c.take_from_full-self-inside.new.blocks.items)
+    c.take_due.new.self.items c.args.current.now.items c.take_from_full-self-inside.new.current.items c.take_due.new.current.items
+    c.take_from_full-self-inside.ensures.current c.take_from_full-self-inside.ensures.future c.take_due.ensures.current c.take_due.ensures.future in
     omega (arith, s.counts, c.len-before.ensures.len, c.len.ensures.len, c.self.invariant.0)
 
-pub invariant_of-self-2 : goal.invariant_of-self-2
-invariant_of-self-2 c =
-    let s = stepped c.args.time (all_items c.self.inside.full.items) c.self.inside.last.items (all_items c.get_ready.new.blocks.items)
-    (all_items c.drop_empty.new.blocks.items) c.take_due.new.self.items c.args.current.now.items c.take_from_full.new.current.items
-    c.take_due.new.current.items c.get_ready.ensures.items c.take_from_full.ensures.current (c.drop_empty.ensures.blocks ∙ c.take_from_full.ensures.future)
-    c.take_due.ensures.current c.take_due.ensures.future in (
+pub invariant_of-self : goal.invariant_of-self
+invariant_of-self c =
+    let s = stepped c.args.time (all_items c.self.inside.full.items) c.self.inside.last.items (all_items c.take_from_full-self-inside.new.blocks.items)
+    c.take_due.new.self.items c.args.current.now.items c.take_from_full-self-inside.new.current.items c.take_due.new.current.items
+    c.take_from_full-self-inside.ensures.current c.take_from_full-self-inside.ensures.future c.take_due.ensures.current c.take_due.ensures.future in (
       omega (arith, s.counts, s.more, c.len-before.ensures.len, c.len.ensures.len, c.self.invariant.0),
       omega (arith, c.self.invariant.1),
-      c.drop_empty.ensures.leasts,
+      c.take_from_full-self-inside.ensures.least,
     )
 
-pub returns-clause-ok : goal.returns-clause-ok
-returns-clause-ok c =
+pub returns-clause-current : goal.returns-clause-current
+returns-clause-current c =
     let t = c.args.time in
-    let s = stepped c.args.time (all_items c.self.inside.full.items) c.self.inside.last.items (all_items c.get_ready.new.blocks.items)
-    (all_items c.drop_empty.new.blocks.items) c.take_due.new.self.items c.args.current.now.items c.take_from_full.new.current.items
-    c.take_due.new.current.items c.get_ready.ensures.items c.take_from_full.ensures.current (c.drop_empty.ensures.blocks ∙ c.take_from_full.ensures.future)
-    c.take_due.ensures.current c.take_due.ensures.future in (
-      s.come ∙ ap (λ v. all_lined_up (due t v.items) c.args.current.now.items) c.self.view_is,
-      s.stay ∙ ap (λ v. filter (λ e. not (is_due t e)) v.items) c.self.view_is,
-    )
+    let s = stepped c.args.time (all_items c.self.inside.full.items) c.self.inside.last.items (all_items c.take_from_full-self-inside.new.blocks.items)
+    c.take_due.new.self.items c.args.current.now.items c.take_from_full-self-inside.new.current.items c.take_due.new.current.items
+    c.take_from_full-self-inside.ensures.current c.take_from_full-self-inside.ensures.future c.take_due.ensures.current c.take_due.ensures.future in
+    s.come ∙ ap (λ v. all_lined_up (due t v.items) c.args.current.now.items) c.self.view_is
+
+pub returns-clause-future : goal.returns-clause-future
+returns-clause-future c =
+    let t = c.args.time in
+    let s = stepped c.args.time (all_items c.self.inside.full.items) c.self.inside.last.items (all_items c.take_from_full-self-inside.new.blocks.items)
+    c.take_due.new.self.items c.args.current.now.items c.take_from_full-self-inside.new.current.items c.take_due.new.current.items
+    c.take_from_full-self-inside.ensures.current c.take_from_full-self-inside.ensures.future c.take_due.ensures.current c.take_due.ensures.future in
+    s.stay ∙ ap (λ v. filter (λ e. not (is_due t e)) v.items) c.self.view_is

@@ -10,4 +10,5 @@ returns-else-is_empty c = λ h.
     let r = c.self.inside.readings in
     let written = c.args.written.now in
     let none : list_any (is_watched r.marks) written ≡ false = sym c.is_any_marked.ensures ∙ not_true c.is_any_marked.result h in
-    ap (λ v. filter (is_woken written) v.waiters) (sym c.self.view_is) ∙ none_woken r written c.self.inside.waiting.items none c.self.invariant
+    ap (λ v. filter (is_woken written) v.waiters) (sym c.self.view_is) ∙
+    none_woken r written c.self.inside.next c.self.inside.waiting.items none c.self.invariant.0
