@@ -1,9 +1,9 @@
 """What all tools share: how they read their words, and how they end."""
+import importlib
 import importlib.util
 import os
 import subprocess
 import sys
-from collections.abc import Callable
 
 
 class Problem(Exception):
@@ -63,17 +63,19 @@ class Words:
         return level / 100
 
 
-def run(main: Callable[[list[str]], int | None], usage: str) -> None:
-    """Runs a tool and ends the process: `--help` goes to standard output with status 0; bad input is one line on standard
-    error and status 2; a reader that goes away, as `| head`, ends it in silence."""
+def run(tool: str) -> None:
+    """Runs `main` of a module of this package and ends the process: `--help` prints the module's docstring with status 0;
+    bad input is one line on standard error and status 2; a reader that goes away, as `| head`, and an interrupt end it in
+    silence, the interrupt also while the module is still being imported."""
     name = "tools/" + os.path.basename(sys.argv[0])
     words = sys.argv[1:]
     try:
+        module = importlib.import_module(f"{__package__}.{tool}")
         if any(word in ("--help", "-h") for word in words):
-            print(usage.strip())
+            print(module.__doc__.strip())
             status = 0
         else:
-            status = main(words) or 0
+            status = module.main(words) or 0
         sys.stdout.flush()
     except Problem as why:
         sys.stdout.flush()
