@@ -11,7 +11,7 @@ use std::alloc::AllocError;
 
 // The lists of those who wait alone are kept from now on, with marks of these alone. The waiters get the places that
 // their lists have then, and join the groups of these one after another.
-pub fn lay_anew(
+pub(crate) fn lay_anew(
     waiting: &mut SharedList<Waiting>,
     readings: &mut SharedReadings,
 ) -> Result<(), AllocError>

@@ -75,21 +75,21 @@ impl ReadLists {
     }
 
     // Whether all of a list are marked.
-    pub fn are_marked(&self, read: &[Watched]) -> bool
+    pub(crate) fn are_marked(&self, read: &[Watched]) -> bool
         ensures { result ≡ list_all (is_watched self.now.marks) read.now }
     {
         read.iter().all(|thing| self.is_marked(thing))
     }
 
     // Whether any of a list is marked.
-    pub fn is_any_marked(&self, written: &[Watched]) -> bool
+    pub(crate) fn is_any_marked(&self, written: &[Watched]) -> bool
         ensures { result ≡ list_any (is_watched self.now.marks) written.now }
     {
         written.iter().any(|thing| self.is_marked(thing))
     }
 
     // The place of a list, all of which is marked from now on.
-    pub fn learn(&mut self, read: Row<Watched>) -> Result<usize, AllocError>
+    pub(crate) fn learn(&mut self, read: Row<Watched>) -> Result<usize, AllocError>
         ensures there { IfOk result (λ i. slice_get self.new.lists i ≡ Some read) }
         ensures marked { OnOk result (list_all (is_watched self.new.marks) read ≡ true) }
         ensures lists { Keeps self.old.lists self.new.lists }
@@ -100,7 +100,7 @@ impl ReadLists {
     }
 
     // The same, for a list of others, which is copied only where it is not there.
-    pub fn learn_copy(&mut self, read: &[Watched]) -> Result<usize, AllocError>
+    pub(crate) fn learn_copy(&mut self, read: &[Watched]) -> Result<usize, AllocError>
         ensures there { IfOk result (λ i. slice_get self.new.lists i ≡ Some read.now) }
         ensures marked { OnOk result (list_all (is_watched self.new.marks) read.now ≡ true) }
         ensures lists { Keeps self.old.lists self.new.lists }
@@ -157,7 +157,7 @@ impl ReadLists {
     }
 
     // None of what is written is marked any more.
-    pub fn unmark(&mut self, written: &[Watched])
+    pub(crate) fn unmark(&mut self, written: &[Watched])
         ensures lists { self.new.lists ≡ self.old.lists }
         ensures marks { Marks self.old.marks written.now self.new.marks }
     {

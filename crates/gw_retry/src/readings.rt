@@ -83,7 +83,7 @@ impl SharedReadings {
     }
 
     // Whether somebody may wait for any of these.
-    pub fn is_any_marked(&self, written: &[Watched]) -> bool
+    pub(crate) fn is_any_marked(&self, written: &[Watched]) -> bool
         ensures { result ≡ list_any (is_watched self.now.marks) written.now }
     {
         self.lists().is_any_marked(written)
@@ -114,7 +114,7 @@ impl SharedReadings {
     }
 
     // It may be changed without memory from now on.
-    pub fn make_own(&mut self) -> Result<(), AllocError>
+    pub(crate) fn make_own(&mut self) -> Result<(), AllocError>
         ensures { self.new ≡ self.old }
     {
         let Kept::Shared(shared) = &self.kept else {
@@ -126,7 +126,7 @@ impl SharedReadings {
     }
 
     // None of what is written is marked any more, unless copies share the marks.
-    pub fn unmark(&mut self, written: &[Watched])
+    pub(crate) fn unmark(&mut self, written: &[Watched])
         ensures lists { self.new.lists ≡ self.old.lists }
         ensures marks { Marks self.old.marks written.now self.new.marks }
     {
