@@ -81,7 +81,7 @@ impl Notes {
     }
 
     /// For proofs alone: no clock step that is noted comes after the step that reads. It does nothing.
-    pub fn rise(&self)
+    pub fn lemma_clock_steps_rise(&self)
         ensures { AreBelow (self.now.step + 1) self.now.firsts.clock_steps }
     {
         let _ = &self.firsts;

@@ -75,7 +75,7 @@ impl Desk {
             }) }
         ensures desk { IfOk result IsBook }
     {
-        version.numbered();
+        version.lemma_ids_are_distinct();
         let _well = version.lines();
         let opening = version.copy(alloc)?;
         let runs = blank_runs(alloc, version.replications(), every)?;

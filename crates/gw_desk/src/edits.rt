@@ -34,7 +34,7 @@ impl Desk {
         let room = self.runs.reserve(new.replications().len());
         let room = room.and(self.edits.reserve(1));
         let touch = room.and(touch_of(&self.version, &edit, &new))?;
-        new.numbered();
+        new.lemma_ids_are_distinct();
         rebase_all(&mut self.runs, &self.version, &touch);
         drop(touch);
         add_missing(&mut self.runs, alloc, new.replications(), self.every);

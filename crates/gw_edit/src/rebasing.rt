@@ -26,7 +26,7 @@ pub fn rebase(run: &mut Recorded, old: &Version, touch: &Touch, replication: u64
         return false;
     }
     // What is left asked for nothing that the two versions answer in another way.
-    old.numbered();
-    run.carry();
+    old.lemma_ids_are_distinct();
+    run.lemma_carries();
     true
 }

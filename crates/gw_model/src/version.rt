@@ -294,7 +294,7 @@ impl Version {
     }
 
     /// Each statement has an id of its own, from 1.
-    pub fn numbered(&self)
+    pub fn lemma_ids_are_distinct(&self)
         ensures { AreNumbered self.now.lines }
     {
         // A version is made so.

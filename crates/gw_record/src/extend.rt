@@ -67,7 +67,7 @@ impl Recorded {
         self.keep()?;
         self.notes.begin(self.moment);
         let turn = step(alloc, version, seed, &mut self.tip, &mut self.notes, tally)?;
-        self.notes.rise();
+        self.notes.lemma_clock_steps_rise();
         if let Turn::Moved = turn {
             self.move_on();
         }

@@ -115,7 +115,7 @@ impl Recorded {
 
     /// The record of one version's run is, as it stands, that of another version's that answers alike all that the
     /// steps below the tip read: blocks go by their statement ids, which edits leave alone.
-    pub fn carry(&self)
+    pub fn lemma_carries(&self)
         ensures { Carries self.now }
     {}
 }

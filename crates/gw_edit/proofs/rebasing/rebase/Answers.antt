@@ -19,4 +19,4 @@ returns-clause-rebased c = λ yes e u is.
       every = c.go_back.ensures.every;
       start = c.go_back.ensures.start;
     } in
-    is_rebased t e u n r s c.numbered.ensures c.carry.ensures back
+    is_rebased t e u n r s c.lemma_ids_are_distinct.ensures c.lemma_carries.ensures back

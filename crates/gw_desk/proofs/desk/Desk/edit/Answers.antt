@@ -66,10 +66,10 @@ pub invariant_of-self : goal.invariant_of-self
 invariant_of-self c = rw (c.reserve-room.ensures.items, c.reserve.ensures.items) c.self.invariant
 
 pub invariant_of-self-2 : goal.invariant_of-self-2
-invariant_of-self-2 c = (still_desk _ _ _ _ _ _ (is_made c) c.numbered.ensures, tt, still_texts _ _ _ _ _ _ (is_made c) c.self.inside.texts c.self.invariant.2)
+invariant_of-self-2 c = (still_desk _ _ _ _ _ _ (is_made c) c.lemma_ids_are_distinct.ensures, tt, still_texts _ _ _ _ _ _ (is_made c) c.self.inside.texts c.self.invariant.2)
 
 pub returns-clause-accepted : goal.returns-clause-accepted
 returns-clause-accepted c = rw (← c.self.view_is) (accepts _ _ _ _ _ _ (is_made c) c.len-2.result (search rules))
 
 pub returns-clause-desk : goal.returns-clause-desk
-returns-clause-desk c = still_desk _ _ _ _ _ _ (is_made c) c.numbered.ensures
+returns-clause-desk c = still_desk _ _ _ _ _ _ (is_made c) c.lemma_ids_are_distinct.ensures

@@ -5,10 +5,10 @@ use Rattle.gw_desk.proofs.desk.Desk.new.Goals as goal
 
 pub invariant_of-result : goal.invariant_of-result
 invariant_of-result c = (
-  blank_book _ _ _ _ _ _ c.requires c.numbered.ensures c.lines-well.ensures.well (search rules) (search rules) (search rules) (search rules),
+  blank_book _ _ _ _ _ _ c.requires c.lemma_ids_are_distinct.ensures c.lines-well.ensures.well (search rules) (search rules) (search rules) (search rules),
   tt,
   no_texts _ _ _ (search rules),
 )
 
 pub returns-clause-desk : goal.returns-clause-desk
-returns-clause-desk c = blank_book _ _ _ _ _ _ c.requires c.numbered.ensures c.lines-well.ensures.well (search rules) (search rules) (search rules) (search rules)
+returns-clause-desk c = blank_book _ _ _ _ _ _ c.requires c.lemma_ids_are_distinct.ensures c.lines-well.ensures.well (search rules) (search rules) (search rules) (search rules)

@@ -16,7 +16,7 @@ returns-in-Moved-clause-records c =
     let kept = rw (← c.self.view_is) at c.in_ok-keep.ensures.ok t c.args.seed c.requires.records in
     let told = rw c.in-Moved.is at c.in_ok-turn.ensures.told in
     let read = rw (c.in-Moved.is, c.begin.ensures) at c.in_ok-turn.ensures.notes in
-    let clock = rw read.now at c.rise.ensures in
+    let clock = rw read.now at c.lemma_clock_steps_rise.ensures in
     let room : c.self.inside.moment < t.limit = search rules in
     rw c.move_on.ensures (made t c.args.seed _ c.step.new.state c.step.new.notes.firsts before kept room told read.each clock)
 
