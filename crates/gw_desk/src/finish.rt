@@ -11,7 +11,7 @@ ghost use Rattle.gw_desk.specs.Finishing.{Finishes, IsMissing};
 
 use crate::answer::Answer;
 use crate::desk::Desk;
-use crate::look::look_behind;
+use crate::look::look_after;
 use crate::recording::place_of;
 use gw_record::Reach;
 use std::alloc::{AllocError, Global};
@@ -34,7 +34,7 @@ impl Desk {
             return Answer::NoStart;
         }
         match self.make_steps(alloc, rep, k, seed) {
-            Ok(reach) => self.told_by(alloc, rep, k, seed, reach),
+            Ok(reach) => self.answer_reach(alloc, rep, k, seed, reach),
             Err(_) => Answer::Memory,
         }
     }
@@ -63,8 +63,8 @@ impl Desk {
         }
     }
 
-    // What stopped the steps on the way to the end of a START that there is, as it is answered.
-    fn told_by(&mut self, alloc: Global, rep: u64, k: u64, seed: u64, reach: Reach) -> Answer
+    // Answers what stopped the steps on the way to the end of a START that there is.
+    fn answer_reach(&mut self, alloc: Global, rep: u64, k: u64, seed: u64, reach: Reach) -> Answer
         requires some { 1 ≤ k }
         requires there { k ≤ starts self.old.version }
         requires seed { seed_at self.old.version rep ≡ Some seed }
@@ -75,7 +75,7 @@ impl Desk {
         let Some(run) = self.run(rep) else {
             unreachable!()
         };
-        let look = look_behind(run, k, reach);
-        self.seen(alloc, rep, k, seed, look)
+        let look = look_after(run, k, reach);
+        self.answer_look(alloc, rep, k, seed, look)
     }
 }

@@ -75,7 +75,7 @@ fn look_at_tip(
 }
 
 // The same by what stopped the steps on the way to the end of START k: the recorded steps decide.
-pub(crate) fn look_behind(run: &Recorded, k: u64, reach: Reach) -> Look
+pub(crate) fn look_after(run: &Recorded, k: u64, reach: Reach) -> Look
     requires start { run.now.start ≡ 0 }
     requires some { 1 ≤ k }
     requires stopped { IsStopped k run.now reach }

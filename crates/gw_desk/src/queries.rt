@@ -38,13 +38,20 @@ impl Desk {
             unreachable!()
         };
         match look_at(alloc, &self.version, seed, run, k) {
-            Ok(look) => self.seen(alloc, rep, k, seed, look),
+            Ok(look) => self.answer_look(alloc, rep, k, seed, look),
             Err(_) => Answer::Memory,
         }
     }
 
-    // What is seen of a START that there is, as it is answered.
-    pub(crate) fn seen(&mut self, alloc: Global, rep: u64, k: u64, seed: u64, look: Look) -> Answer
+    // Answers what a look at a START that there is has found.
+    pub(crate) fn answer_look(
+        &mut self,
+        alloc: Global,
+        rep: u64,
+        k: u64,
+        seed: u64,
+        look: Look,
+    ) -> Answer
         requires some { 1 ≤ k }
         requires there { k ≤ starts self.old.version }
         requires seed { seed_at self.old.version rep ≡ Some seed }

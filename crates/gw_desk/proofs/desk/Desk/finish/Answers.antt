@@ -28,20 +28,20 @@ make_steps-requires-clause-seed c = grind (arith, common_steps)
 pub make_steps-requires-clause-some : goal.make_steps-requires-clause-some
 make_steps-requires-clause-some c = grind (arith, common_steps)
 
-pub told_by-requires-clause-some : goal.told_by-requires-clause-some
-told_by-requires-clause-some c = grind (arith, common_steps)
+pub answer_reach-requires-clause-some : goal.answer_reach-requires-clause-some
+answer_reach-requires-clause-some c = grind (arith, common_steps)
 
-pub told_by-requires-clause-there : goal.told_by-requires-clause-there
-told_by-requires-clause-there c = grind (arith, common_steps)
+pub answer_reach-requires-clause-there : goal.answer_reach-requires-clause-there
+answer_reach-requires-clause-there c = grind (arith, common_steps)
 
-pub told_by-requires-clause-seed : goal.told_by-requires-clause-seed
-told_by-requires-clause-seed c = grind (arith, common_steps)
+pub answer_reach-requires-clause-seed : goal.answer_reach-requires-clause-seed
+answer_reach-requires-clause-seed c = grind (arith, common_steps)
 
-pub told_by-requires-clause-reached : goal.told_by-requires-clause-reached
-told_by-requires-clause-reached c = grind (arith, common_steps)
+pub answer_reach-requires-clause-reached : goal.answer_reach-requires-clause-reached
+answer_reach-requires-clause-reached c = grind (arith, common_steps)
 
 -- what stopped the steps decides
-shut : (c : goal.After-told_by) (n : ℕ) → IsUnfinished c.make_steps.new.self c.args.rep c.args.k n → ⊥
+shut : (c : goal.After-answer_reach) (n : ℕ) → IsUnfinished c.make_steps.new.self c.args.rep c.args.k n → ⊥
 shut c =
     let HasSeed : Book → Type 0 = λ b. Some c.in-Some.seed ≡ seed_at b.version c.args.rep in
     let old = subst HasSeed c.self.view_is c.in-Some.ensures.value in
@@ -52,7 +52,7 @@ shut c =
 pub returns-in-Ok-clause-answer : goal.returns-in-Ok-clause-answer
 returns-in-Ok-clause-answer c =
     let steps = c.make_steps.ensures.steps in
-    rw (steps.version, steps.edits) at (peeks_answer c.make_steps.new.self c.args.rep c.args.k c.told_by.result c.told_by.ensures.peeks (shut c))
+    rw (steps.version, steps.edits) at (peeks_answer c.make_steps.new.self c.args.rep c.args.k c.answer_reach.result c.answer_reach.ensures.peeks (shut c))
 
 pub returns-in-Ok-clause-decided : goal.returns-in-Ok-clause-decided
-returns-in-Ok-clause-decided c = λ other. rw c.told_by.ensures.same (shut c)
+returns-in-Ok-clause-decided c = λ other. rw c.answer_reach.ensures.same (shut c)

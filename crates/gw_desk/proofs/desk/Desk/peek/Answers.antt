@@ -4,8 +4,8 @@ use Rattle.gw_desk.specs.Book.{run_in}
 use Rattle.gw_desk.specs.Looking.{Sees}
 use Rattle.gw_desk.proofs.desk.Desk.peek.Goals as goal
 
-pub seen-requires-clause-sees : goal.seen-requires-clause-sees
-seen-requires-clause-sees c = λ r there.
+pub answer_look-requires-clause-sees : goal.answer_look-requires-clause-sees
+answer_look-requires-clause-sees c = λ r there.
     let b = c.args.self.now in
     let run = c.in-Some-run.run'.now in
     let looked : Sees b.version c.in-Some.seed c.args.k run c.in-Ok.look = search rules in

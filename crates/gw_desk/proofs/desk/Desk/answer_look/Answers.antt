@@ -1,6 +1,6 @@
 use Rattle.std.proofs.Common.{◌≡◌, ℕ, length, subst, rules}
 use Rattle.gw_desk.specs.Texts.{AreTexts}
-use Rattle.gw_desk.proofs.desk.Desk.seen.Goals as goal
+use Rattle.gw_desk.proofs.desk.Desk.answer_look.Goals as goal
 
 pub text_at-requires-clause-texts : goal.text_at-requires-clause-texts
 text_at-requires-clause-texts c =

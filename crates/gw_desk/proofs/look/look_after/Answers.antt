@@ -1,7 +1,7 @@
 use Rattle.std.proofs.Common.{None}
 use Rattle.gw_record.specs.Lookups.{IsEndOf}
 use Rattle.gw_desk.proofs.Looks.{complete_there, seen_complete, seen_ended, seen_long}
-use Rattle.gw_desk.proofs.look.look_behind.Goals as goal
+use Rattle.gw_desk.proofs.look.look_after.Goals as goal
 
 pub returns-in-Some : goal.returns-in-Some
 returns-in-Some c = λ t seed h reached.
