@@ -39,12 +39,12 @@ returns-in_ok-to-in-Label c =
     (decides_asked t seed (items.Named asking.Label c.in-Label.name) (split_to c.args.id c.args.count) c.split_to.result c.args.notes.now
     c.ask_label.new.notes c.ask_label.new.notes c.in_ok-to-in-Label.ensures.ok there)
 
-pub returns-in_default-node : goal.returns-in_default-node
-returns-in_default-node c =
+pub returns-in_default-expr : goal.returns-in_default-expr
+returns-in_default-expr c =
     let t = c.args.run.version.now in
     let seed = c.args.run.seed in
-    let label : option_copied c.args.label ≡ Some (term_of c.node.result.now) = search rules in
-    let made : Comes (split_into c.args.id c.args.count None) (Ok c.split_into-in_default-node.result) = search rules in
-    decides_comes t seed (split_count c.args.id (option_copied c.args.label) c.args.count) (Ok c.split_into-in_default-node.result) c.args.notes.now
+    let label : option_copied c.args.label ≡ Some c.in-Some.expr.now = search rules in
+    let made : Comes (split_into c.args.id c.args.count None) (Ok c.split_into-in_default-expr.result) = search rules in
+    decides_comes t seed (split_count c.args.id (option_copied c.args.label) c.args.count) (Ok c.split_into-in_default-expr.result) c.args.notes.now
     (ap (λ o. split_count c.args.id o c.args.count) label ∙
-    (split_else c.args.id c.node.result.now c.args.count c.if-count-eq0.false (λ name is. c.in_default-node.not-Label name is) ∙ made))
+    (split_else c.args.id c.in-Some.expr.now c.args.count c.if-count-eq0.false (λ name is. c.in_default-expr.not-Label name is) ∙ made))
