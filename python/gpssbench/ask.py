@@ -86,7 +86,7 @@ class Prompt:
             print(self.kept.edit(line) or f"ok {self.kept.bench.version}")
         else:
             near = codes.difflib.get_close_matches(word, COMMANDS, 1, 0.5)
-            raise Problem(f"no command {word}{f'; {near[0]}?' if near else ''} `help` shows them")
+            raise Problem(f"no command {word}{f', {near[0]}?' if near else ''}; `help` shows them")
         return False
 
     def help(self, rest: list[str]) -> None:

@@ -251,7 +251,8 @@ class OfKind:
 
     def __getitem__(self, entity: str) -> Column:
         if entity.upper() not in list(self):
-            raise KeyError(f"no {self.kind} {entity}, but {', '.join(self)}")
+            known = ", ".join(self)
+            raise KeyError(f"no {self.kind} {entity}{', but ' + known if known else ': the runs used none'}")
         return Column(self.reports, self.kind, entity.upper())
 
 

@@ -227,7 +227,7 @@ def of_nothing(measure: Measure, models: list[list[str]]) -> str | None:
     there = [it for texts in models for it in (named(texts, measure),) if it is not None]
     if there and not any(measure.entity in it for it in there):
         known = sorted({it for names in there for it in names})
-        return f"no {measure.kind} {measure.entity}, but {', '.join(known) or 'none'}"
+        return f"no {measure.kind} {measure.entity}{', but ' + ', '.join(known) if known else ': the model has none'}"
     if measure.kind == "class":
         limits = {limit for texts in models for limit in limits_of(texts, measure.entity)}
         if measure.limit not in map(str, limits):
