@@ -15,12 +15,14 @@ use Rattle.gw_expr.specs.declared.function.Point.{Point}
 use Rattle.gw_expr.specs.declared.atom.Atom.{Atom}
 use Rattle.gw_expr.specs.declared.token.Token.{Token}
 use Rattle.gw_expr.specs.Term.{Term}
+use Rattle.gw_meaning.specs.contracts.auxiliary.AuxiliaryEq.TheImpl.Laws as auxiliary_laws
+use Rattle.gw_meaning.specs.declared.auxiliary.Auxiliary.{Auxiliary}
 use Rattle.gw_meaning.specs.declared.statement.Statement.{Statement}
 use Rattle.gw_meaning.specs.declared.statement.Block.{Block}
 use Rattle.gw_meaning.specs.declared.statement.Body.{Body}
 use Rattle.gw_meaning.specs.declared.statement.Body.TheVariants as bodies
 use Rattle.gw_meaning.specs.Listing.{block_of_body}
-use Rattle.gw_touch.specs.Same.{same_atom, same_value, same_part, same_parts, same_type, same_point, same_points, same_function, same_first, kind_of, atom_of, parts_of, number_of, bytes_of, same_term, same_operand, same_operands, same_verb, auxiliary_number, same_auxiliary, same_block, same_body, same_statement, same_label}
+use Rattle.gw_touch.specs.Same.{same_atom, same_value, same_part, same_parts, same_type, same_point, same_points, same_function, same_first, kind_of, atom_of, parts_of, number_of, bytes_of, same_term, same_operand, same_operands, same_verb, same_auxiliary, same_block, same_body, same_statement, same_label}
 use Rattle.gw_touch.specs.Touches.{first_operand}
 
 pub bytes_itself : (bs : List ℕ) → bytes_eq bs bs ≡ true
@@ -61,12 +63,16 @@ operands_itself (x ∷ xs) = and_from (same_operand x x) (same_operands xs xs) (
 
 -- ---- statements
 
+auxiliary_itself : (a : Auxiliary) → same_auxiliary a a ≡ true
+unfolding same_auxiliary
+auxiliary_itself a = auxiliary_laws.laws-law.refl a
+
 pub block_itself : (b : Block) → same_block b b ≡ true
 unfolding same_verb
 block_itself b =
     and_from (same_verb b.verb b.verb) _ (true_same the_type b.verb b.verb refl)
     (and_from (same_auxiliary b.auxiliary b.auxiliary) (same_operands b.operands b.operands)
-    (eq-eqb (auxiliary_number b.auxiliary) (auxiliary_number b.auxiliary) refl) (operands_itself b.operands))
+    (auxiliary_itself b.auxiliary) (operands_itself b.operands))
 
 body_itself : (b : Body) → is_some (block_of_body b) ≡ true → same_body b b ≡ true
 body_itself (bodies.Block b) h = block_itself b
