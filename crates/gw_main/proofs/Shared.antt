@@ -39,7 +39,7 @@ module _ {S K : Type 0} (took : S → List ℕ → S → Type 0) (ended : S → 
   stopped_alone none result h = IfErr-weaker result _ _ (stopped_over none) h
 
   opens_on : (t : Listing) → OpensVersion model o t → Opens model o (book_of t o.every)
-  opens_on t opens = record { version = t; opens = opens; lemma_is_book = refl }
+  opens_on t opens = record { version = t; opens = opens; is_book = refl }
 
   pub served_beside : 1 ≤ workers → (t : Listing) → OpensVersion model o t → (result : Result Over Fault) →
       IfOk result (λ over. (after : List Edit) × Serves (SeatAnswers t) took ended reads wrote writes [] source source' sink sink' after over) →

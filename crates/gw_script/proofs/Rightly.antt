@@ -181,7 +181,7 @@ worked_read b c rep steps (Some count) is works = record {
 opens_read : (model : List ℕ) (o : Options) (b : Book) → IsBook b → Opens model o b → IsRead b
 opens_read model o b desk opens = record {
   desk = desk;
-  spelled = subst (λ (a : Book). AreSpelled a.version.lines) (sym opens.lemma_is_book) (opened_is_spelled model o opens.version opens.opens);
+  spelled = subst (λ (a : Book). AreSpelled a.version.lines) (sym opens.is_book) (opened_is_spelled model o opens.version opens.opens);
 }
 
 -- a session over the desk that a model opens

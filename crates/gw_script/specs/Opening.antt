@@ -39,7 +39,7 @@ OpenedIsSpelled = (model : List ℕ) (o : Options) (t : Listing) → OpensVersio
 pub record Opens (model : List ℕ) (o : Options) (b : Book) : Type 0 where
   pub version : Listing
   pub opens : OpensVersion model o version
-  pub lemma_is_book : b ≡ book_of version o.every
+  pub is_book : b ≡ book_of version o.every
 
 -- the model's lines spell statements, and this is the first fault of what they make
 pub record HasFault (model : List ℕ) (o : Options) (fault : ModelFault) : Type 0 where
