@@ -57,7 +57,7 @@ class Prompts(InFolder):
         self.assertEqual(told.count("\n"), 4, told)
         self.assertIn("plain letters", told)
         told = self.ask("change 5 ADVANCE 1.5", "hlep", "explain M3", "save /nowhere/x.gps", "report 1 9", "report 7")
-        for part in ("no decimals", "no command hlep; help?", "M3: ", "/nowhere/x.gps: No such file", "nostart: ", "noreplication: "):
+        for part in ("no decimals", "no command hlep, help?; ", "M3: ", "/nowhere/x.gps: No such file", "nostart: ", "noreplication: "):
             self.assertIn(part, told)
         bad = tool("ask", self.write("bad.gps", "GENERATE 5\nADVANSE 3\n"))
         self.assertEqual((bad.returncode, bad.stderr.count(b"\n"), b"ADVANCE?" in bad.stderr), (2, 1, True), bad.stderr)
