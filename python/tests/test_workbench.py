@@ -275,7 +275,7 @@ async def main():
     told = [at for at, it in await until("figures", 100) if it["kind"] == "busy"]
     gaps = [after - before for before, after in zip(told, told[1:])]
     assert len(told) > 2 and sorted(gaps)[len(gaps) // 2] <= 0.5, gaps
-    await socket.write_message(json.dumps({"do": "edit", "line": "change 2 ADVANCE 31", "seen": 7}))
+    await socket.write_message(json.dumps({"do": "edit", "line": "change 2 ADVANCE 40001", "seen": 7}))
     await until("busy")
     await socket.write_message(json.dumps({"do": "give up"}))
     said = (await until("said"))[-1][1]
@@ -284,7 +284,7 @@ async def main():
     assert "no edit is lost" in said["text"], said
     await socket.write_message(json.dumps({"do": "look"}))
     state = (await until("state"))[-1][1]
-    assert state["statements"][1]["text"] == "ADVANCE 31", state["statements"][1]
+    assert state["statements"][1]["text"] == "ADVANCE 40001", state["statements"][1]
     await socket.write_message(json.dumps({"do": "give up"}))
 
 
@@ -481,8 +481,8 @@ class Workbench(InFolder):
                     shutil.copy(self.path(name), os.path.join(pictures, "workbench-" + name))
 
     def test_progress_and_a_run_that_is_given_up(self):
-        # some 950,000 steps in each of eight replications
-        self.write("long.gps", "GENERATE 10\nADVANCE 30\nTERMINATE 1\nSTART 135000\n")
+        # some 950,000 steps in each of eight replications, and 4,000 transactions that are held, so that they take a while
+        self.write("long.gps", "GENERATE 10\nADVANCE 40000\nTERMINATE 1\nSTART 135000\n")
         _, address = self.serve()
         python = SYSTEM if has("tornado", SYSTEM) else "python3"
         ran = subprocess.run([python, "-c", LISTEN, address, "long.gps"], capture_output=True, timeout=300)

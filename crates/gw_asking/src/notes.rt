@@ -67,10 +67,10 @@ impl Notes {
 
     /// The streams after the draws.
     #[inline(always)]
-    pub fn streams(&self) -> Streams
-        ensures { result ≡ self.now.streams }
+    pub fn streams(&self) -> &Streams
+        ensures { result.now ≡ self.now.streams }
     {
-        self.streams
+        &self.streams
     }
 
     /// Sets the streams for which a value stands, as an RMULT does.

@@ -215,3 +215,21 @@ since_after t m (e ∷ es) lt h = go (nat_lt t e.time) refl h (since_after t m e
       let others : IsNoneBefore m (after t es) = rw later at h in
       let gone : nat_le m e.time ≡ false = grind (arith, nat_tests) in
       rw (later, gone) (rest others)
+
+-- those who stay tell whether one comes before a time
+pub before_stays : (t : ℕ) (es : List Event) → IsNoneBefore t es → IsNoneBefore t (filter (λ e. not (is_due t e)) es)
+before_stays t [] h = tt
+before_stays t (e ∷ es) h = go (is_due t e) refl (before_stays t es h.1) where
+  go : (b : Bool) → is_due t e ≡ b → IsNoneBefore t (filter (λ e. not (is_due t e)) es) →
+      IsNoneBefore t (filter (λ e. not (is_due t e)) (e ∷ es))
+  go true now rest = rw now rest
+  go false later rest = rw later (h.0, rest)
+
+pub before_all : (t : ℕ) (es : List Event) → IsNoneBefore t (filter (λ e. not (is_due t e)) es) → IsNoneBefore t es
+before_all t [] h = tt
+before_all t (e ∷ es) h = go (is_due t e) refl h (λ rest. before_all t es rest) where
+  go : (b : Bool) → is_due t e ≡ b → IsNoneBefore t (filter (λ e. not (is_due t e)) (e ∷ es)) →
+      (IsNoneBefore t (filter (λ e. not (is_due t e)) es) → IsNoneBefore t es) → IsNoneBefore t (e ∷ es)
+  go true now h all = let rest : IsNoneBefore t (filter (λ e. not (is_due t e)) es) = rw now at h in (grind (arith, nat_tests, now), all rest)
+  go false later h all =
+      let rest : IsNoneBefore t (e ∷ filter (λ e. not (is_due t e)) es) = rw later at h in (rest.0, all rest.1)

@@ -1,5 +1,5 @@
 -- The user chains by key: what linking and unlinking makes of them.
-use Rattle.std.proofs.Common.{◌≡◌, ℕ, zero, suc, ◌+◌, ◌-◌, ◌<◌, ◌≤◌, Bool, true, false, cond, List, [], ◌∷◌, ◌++◌, length, map, take, drop, set, Option, Some, None, unwrap_or, get_or, refl, sym, ap, ap₂, ◌∙◌, arith}
+use Rattle.std.proofs.Common.{◌≡◌, ℕ, zero, suc, ◌+◌, ◌-◌, ◌≤◌, Bool, true, false, cond, List, [], ◌∷◌, ◌++◌, length, map, take, drop, set, Option, Some, None, unwrap_or, get_or, refl, sym, ap, ◌∙◌, arith}
 use Rattle.std.proofs.lemmas.List.{length-append, length-drop, length-map, length-set}
 use Rattle.std.specs.List.{IsDistinct, zip}
 use Rattle.indexmap.specs.IndexSet.{insert_key}
@@ -10,9 +10,6 @@ use Rattle.gw_names.specs.Keys.{key_eq}
 use Rattle.gw_meaning.specs.Tables.{value_of, with_value, IsPlace}
 use Rattle.gw_entities.proofs.Anew.{zip_anew}
 use Rattle.gw_entities.proofs.Entries.{pushed_is}
-use Rattle.gw_entities.proofs.Lookups.{Some_same}
-use Rattle.std.proofs.lemmas.Option.{slice_get_read}
-use Rattle.std.specs.Prelude.{slice_get}
 use Rattle.gw_entities.proofs.TableLaws.{set_value_is}
 use Rattle.gw_meaning.specs.declared.transaction.Transaction.{Transaction}
 use Rattle.gw_meaning.specs.Changes.{lined_up, all_lined_up, joined, linked_to, sent, one_unlinked, some_unlinked, user_chain_anew}
@@ -160,36 +157,6 @@ fewer l key c n count gone h is less =
     (omega (arith, both, there, is, less, short), omega (arith, both, there, is, less, short))
 
 -- ---- counted anew
-
-none_taken : (os : List UserChain) → take 0 os ≡ map user_chain_anew (take 0 os)
-none_taken [] = refl
-none_taken (o ∷ os) = refl
-
--- one more of a list of chains
-pub anew_next : (cs os : List UserChain) (i j : ℕ) (was now : UserChain) → j ≡ suc i → i < length cs → was ≡ get_or cs i was → now ≡ user_chain_anew was →
-    take i cs ≡ map user_chain_anew (take i os) → drop i cs ≡ drop i os →
-    (take j (set cs i now) ≡ map user_chain_anew (take j os)) × (drop j (set cs i now) ≡ drop j os)
-anew_next cs os i j was now next within read is done left =
-    let all = go cs os i within (slice_get_read cs (length cs) i was refl within read) done left in (
-      ap (λ n. take n (set cs i now)) next ∙ (all.0 ∙ ap (λ n. map user_chain_anew (take n os)) (sym next)),
-      ap (λ n. drop n (set cs i now)) next ∙ (all.1 ∙ ap (λ n. drop n os) (sym next)),
-    ) where
-      go : (cs os : List UserChain) (i : ℕ) → i < length cs → slice_get cs i ≡ Some was → take i cs ≡ map user_chain_anew (take i os) → drop i cs ≡ drop i os →
-          (take (suc i) (set cs i now) ≡ map user_chain_anew (take (suc i) os)) × (drop (suc i) (set cs i now) ≡ drop (suc i) os)
-      go [] os i within at done left = absurd (omega (arith, within))
-      go (c ∷ cs) [] zero within at done left = absurd cc
-      go (c ∷ cs) (o ∷ os) zero within at done left =
-          let same : c ≡ o = cc in
-          let rest : cs ≡ os = cc in
-          let here : c ≡ was = Some_same at in
-          let new : now ≡ user_chain_anew o = is ∙ ap user_chain_anew (sym here ∙ same) in
-          (ap₂ (λ (x : UserChain) (l : List UserChain). x ∷ l) new (ap (take 0) rest ∙ none_taken os), ap (drop 0) rest)
-      go (c ∷ cs) [] (suc i) within at done left = absurd cc
-      go (c ∷ cs) (o ∷ os) (suc i) within at done left =
-          let first : c ≡ user_chain_anew o = cc in
-          let before : take i cs ≡ map user_chain_anew (take i os) = cc in
-          let rest = go cs os i (omega (arith, within)) at before left in
-          (ap₂ (λ (x : UserChain) (l : List UserChain). x ∷ l) first rest.0, rest.1)
 
 -- who is on each stays
 pub members_anew : (l : Linked) → members_of (map (λ c. (c.0, user_chain_anew c.1)) l) ≡ members_of l

@@ -3,7 +3,7 @@ ghost use Rattle.std.specs.Prelude.{slice_get, option_to_list, IfOk, OnOk, IfNon
 ghost use Rattle.gw_meaning.specs.Changes.{all_lined_up, due, is_due};
 ghost use Rattle.gw_meaning.specs.Step.{least_time};
 ghost use Rattle.gw_lanes.specs.Least.{least};
-ghost use Rattle.gw_chains.specs.Blocks.{time_of, after};
+ghost use Rattle.gw_chains.specs.Blocks.{time_of, after, IsNoneBefore};
 
 use crate::chain::PriorityChain;
 use gw_lanes::{first_at, least};
@@ -129,26 +129,32 @@ impl Block {
 
     // Moves the transactions of a time to the current chain, in the order in which they came.
     pub(crate) fn take_due(&mut self, current: &mut PriorityChain, time: Time)
-        requires { length self.old.items ≤ current.old.room }
+        requires room { length self.old.items ≤ current.old.room }
+        requires before { IsNoneBefore time self.old.items }
         ensures current { current.new.items ≡ all_lined_up (due time self.old.items) current.old.items }
         ensures future { self.new.items ≡ filter (λ e. not (is_due time e)) self.old.items }
         ensures room { current.old.room + length self.new.items ≤ current.new.room + length self.old.items }
     {
         while let Some(x) = self.take_first_due(time) {
-            current.line_up(x);
+            current.line_up_ref(&x);
         }
     }
 
-    // The first one of a time leaves.
+    // The first transaction of a time leaves, where none of the block is due before that time.
     #[inline(always)]
     fn take_first_due(&mut self, time: Time) -> Option<Transaction>
+        requires { IsNoneBefore time self.old.items }
         ensures due { due time self.old.items ≡ option_to_list result ++ due time self.new.items }
         ensures stay { filter (λ e. not (is_due time e)) self.new.items ≡
             filter (λ e. not (is_due time e)) self.old.items }
         ensures len { length self.new.items + length (option_to_list result) ≡ length self.old.items }
         ensures none { IfNone result (due time self.new.items ≡ []) }
     {
-        let Some(index) = first_at(&self.times, time.ticks()) else {
+        let now = time.ticks();
+        if self.least != now {
+            return None;
+        }
+        let Some(index) = first_at(&self.times, now) else {
             return None;
         };
         self.times.remove(index);

@@ -95,6 +95,7 @@ impl PriorityChain {
     }
 
     // Whether a transaction goes to the end, as most do.
+    #[inline(always)]
     fn goes_last(&self, x: &Transaction) -> bool
         ensures { IsTrue result → lined_up x.now self.now.items ≡ self.now.items ++ x.now ∷ [] }
     {

@@ -9,6 +9,7 @@ use gw_entities::KeySet;
 use gw_expr::Discipline;
 use gw_meaning::{Destination, Transaction};
 use gw_names::Key;
+use gw_shared::SharedValues;
 use std::alloc::{AllocError, Global};
 use std::marker::Model;
 
@@ -17,7 +18,7 @@ use std::marker::Model;
 pub struct UserChains {
     keys: KeySet,
     // The chain of each key.
-    chains: Vec<UserChain>,
+    chains: SharedValues<UserChain>,
     // How many are on all of them.
     count: usize,
 }
@@ -31,9 +32,9 @@ impl Model for UserChains {
 
     ghost Value = { List (Key × UserChain) };
 
-    ghost view = { λ u. zip u.keys.keys u.chains.items };
+    ghost view = { λ u. zip u.keys.keys u.chains };
 
-    ghost invariant = { λ u. AreLinked u.keys.keys u.chains.items u.count };
+    ghost invariant = { λ u. AreLinked u.keys.keys u.chains u.count };
 }
 
 impl UserChains {
@@ -43,7 +44,7 @@ impl UserChains {
     {
         UserChains {
             keys: KeySet::new(alloc),
-            chains: Vec::new(alloc),
+            chains: SharedValues::new(alloc),
             count: 0,
         }
     }
@@ -86,7 +87,7 @@ impl UserChains {
         ensures { unwrap_or (option_copied result) no_chain ≡ user_chain_at self.now key.now }
     {
         let index = self.place(key)?;
-        Some(&self.chains[index])
+        Some(self.chains.at(index))
     }
 
     /// A transaction is linked to a user chain: to the back or to the front. Where memory is refused, it is not.
@@ -106,7 +107,7 @@ impl UserChains {
         let Some(index) = self.place(key) else {
             return self.link_first(key, x, discipline);
         };
-        self.chains[index].link(x, discipline)?;
+        self.chains.at_mut(index)?.link(x, discipline)?;
         self.count += 1;
         Ok(())
     }
@@ -127,40 +128,52 @@ impl UserChains {
     {
         let own = key.clone()?;
         self.keys.reserve()?;
-        self.chains.reserve(1)?;
-        let mut chain = UserChain::new(*self.chains.allocator());
+        let mut chain = UserChain::new(self.chains.allocator());
         chain.link(x, discipline)?;
+        self.chains.push(chain)?;
         self.keys.insert(own);
-        self.chains.push_reserved(chain);
         self.count += 1;
         Ok(())
     }
 
     /// So many from the front of a user chain go to a block, one by one: each comes onto the current chain after its
-    /// equals.
-    pub fn unlink(&mut self, key: &Key, count: u64, to: Destination, current: &mut PriorityChain)
+    /// equals. Where memory is refused, nobody goes.
+    pub fn unlink(
+        &mut self,
+        key: &Key,
+        count: u64,
+        to: Destination,
+        current: &mut PriorityChain,
+    ) -> Result<(), AllocError>
         requires { count ≤ current.old.room }
-        ensures unlinked { (s : Machine) →
+        ensures ok { OnOk result ((s : Machine) →
             record s { linked = self.new; current = current.new.items } ≡
             some_unlinked count key.now to (user_chain_at self.old key.now).members
-            (record s { linked = self.old; current = current.old.items }) }
+            (record s { linked = self.old; current = current.old.items })) }
+        ensures err { OnErr result ((self.new ≡ self.old) × (current.new.items ≡ current.old.items)) }
         ensures room { current.old.room ≤ current.new.room + count }
     {
         let Some(index) = self.place(key) else {
-            return;
+            return Ok(());
         };
-        let chain = &mut self.chains[index];
+        let chain = self.chains.at_mut(index)?;
         let before = chain.len();
         chain.unlink(count, to, current);
         let gone = before - chain.len();
         self.count -= gone;
+        Ok(())
     }
 
-    /// Nobody was linked, as far as is counted, as after a RESET. Who is on a user chain stays there.
-    pub fn count_anew(&mut self)
-        ensures { self.new ≡ map (λ c. (c.0, user_chain_anew c.1)) self.old }
+    /// Equal chains, but that they count no transaction as linked, as after a RESET. Each member stays where it is.
+    pub fn anew(&self) -> Result<UserChains, AllocError>
+        ensures { IfOk result (λ u. u ≡ map (λ c. (c.0, user_chain_anew c.1)) self.now) }
     {
-        all_anew(&mut self.chains);
+        let keys = self.keys.copy()?;
+        Ok(UserChains {
+            keys,
+            chains: all_anew(&self.chains)?,
+            count: self.count,
+        })
     }
 
     /// Copies share from now on who is on them now. It holds the same, also where memory is refused.
@@ -168,7 +181,7 @@ impl UserChains {
         ensures { self.new ≡ self.old }
     {
         self.keys.share()?;
-        share_all(&mut self.chains)
+        self.chains.share()
     }
 
     /// The same chains.
@@ -178,38 +191,19 @@ impl UserChains {
         let keys = self.keys.copy()?;
         Ok(UserChains {
             keys,
-            chains: copy_chains(*self.chains.allocator(), &self.chains)?,
+            chains: self.chains.copy()?,
             count: self.count,
         })
     }
 }
 
-// Nobody was linked to these, as far as is counted.
-fn all_anew(chains: &mut Vec<UserChain>)
-    ensures { chains.new.items ≡ map user_chain_anew chains.old.items }
+// Equal chains, but that they count no transaction as linked.
+fn all_anew(chains: &SharedValues<UserChain>) -> Result<SharedValues<UserChain>, AllocError>
+    ensures { IfOk result (λ cs. cs ≡ map user_chain_anew chains.now) }
 {
+    let mut all = SharedValues::new(chains.allocator());
     for index in 0..chains.len() {
-        chains[index].count_anew();
+        all.push(chains.at(index).anew()?)?;
     }
-}
-
-// Copies share from now on who is on these.
-fn share_all(chains: &mut Vec<UserChain>) -> Result<(), AllocError>
-    ensures { chains.new.items ≡ chains.old.items }
-{
-    for index in 0..chains.len() {
-        chains[index].share()?;
-    }
-    Ok(())
-}
-
-// Equal chains.
-fn copy_chains(alloc: Global, chains: &[UserChain]) -> Result<Vec<UserChain>, AllocError>
-    ensures { IfOk result (λ cs. cs.items ≡ chains.now) }
-{
-    let mut copies = Vec::with_capacity(alloc, chains.len())?;
-    for chain in chains {
-        copies.push(chain.copy()?)?;
-    }
-    Ok(copies)
+    Ok(all)
 }

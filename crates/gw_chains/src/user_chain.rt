@@ -5,7 +5,7 @@ ghost use Rattle.gw_meaning.specs.Machine.{no_chain};
 use crate::chain::PriorityChain;
 use gw_expr::Discipline;
 use gw_meaning::{Destination, Transaction};
-use gw_shared::SharedList;
+use gw_shared::{SharedList, Sharing};
 use std::alloc::{AllocError, Global};
 use std::marker::Model;
 
@@ -64,11 +64,14 @@ impl UserChain {
         Ok(())
     }
 
-    // Nobody was linked, as far as is counted. Who is on it stays.
-    pub fn count_anew(&mut self)
-        ensures { self.new ≡ user_chain_anew self.old }
+    // An equal chain, but that it counts no transaction as linked.
+    pub fn anew(&self) -> Result<UserChain, AllocError>
+        ensures { IfOk result (λ c. c ≡ user_chain_anew self.now) }
     {
-        self.entries = 0;
+        Ok(UserChain {
+            entries: 0,
+            members: self.members.copy()?,
+        })
     }
 
     // So many from the front go to a block: each comes onto the current chain after its equals.
@@ -90,18 +93,17 @@ impl UserChain {
             });
         }
     }
+}
 
-    // Copies share from now on who is on it now.
-    pub fn share(&mut self) -> Result<(), AllocError>
-        ensures { self.new ≡ self.old }
-    {
-        self.members.share()
+impl Sharing for UserChain {
+    // A copy is what is shared, since a copy has no room to spare.
+    fn share(&mut self) -> Result<(), AllocError> {
+        self.members.share()?;
+        self.members = self.members.copy()?;
+        Ok(())
     }
 
-    // An equal chain.
-    pub fn copy(&self) -> Result<UserChain, AllocError>
-        ensures { IfOk result (λ c. c ≡ self.now) }
-    {
+    fn copy(&self) -> Result<UserChain, AllocError> {
         Ok(UserChain {
             entries: self.entries,
             members: self.members.copy()?,

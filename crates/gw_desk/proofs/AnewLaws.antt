@@ -2,7 +2,6 @@
 use Rattle.std.proofs.Common.{◌≡◌, ℕ, zero, suc, ◌+◌, ◌||◌, nat_eq, nat_lt, Bool, true, false, cond, List, [], ◌∷◌, length, filter, Option, Some, None, Result, Ok, Err, refl, ap, ap₂, is_some, option_map, ◌∙◌, arith}
 use Rattle.std.specs.List.{list_any}
 use Rattle.std.proofs.Math.Path.{fun_ext}
-use Rattle.gw_expr.specs.Term.{Term}
 use Rattle.gw_expr.specs.declared.halt.End.{End}
 use Rattle.gw_meaning.specs.declared.item.Outcome.{Outcome}
 use Rattle.gw_meaning.specs.declared.statement.Statement.{Statement}
@@ -15,7 +14,8 @@ use Rattle.gw_meaning.specs.Point.{outcome_of}
 use Rattle.gw_model.specs.Listed.{numbered}
 use Rattle.gw_model.proofs.Numbers.{numbered_listed}
 use Rattle.gw_frame.specs.Moved.{IsMove, moved_machine, moved_result}
-use Rattle.gw_model.specs.Faults.{is_labelled, has_label_twice, holds_of, holds_in, is_unknown_label, has_unknown_label, is_undefined, has_unknown_definition, is_equ_named, has_equ_named}
+use Rattle.gw_model.specs.Named.{holds_of, holds_in}
+use Rattle.gw_model.specs.Faults.{is_labelled, has_label_twice, is_unknown_label, has_unknown_label, is_undefined, has_unknown_definition, is_equ_named, has_equ_named}
 use Rattle.gw_model.specs.Listed.{counted_label}
 use Rattle.gw_frame.specs.Renamed.{statements_of, AreRenamed, IsSameModel, IsRenamed}
 use Rattle.gw_frame.proofs.Renaming.{commands_renamed, label_renamed}
@@ -134,15 +134,13 @@ twice_renamed move is (l ∷ ls) (m ∷ ms) r =
     let same : counted_label m ≡ counted_label l = ap label_of_statement r.1 in
     ap₂ (λ a b. a || b) (ap (λ label. is_labelled label ms) same ∙ labelled_renamed move (counted_label l) ls ms r.2) (twice_renamed move is ls ms r.2)
 
--- a test holds of an operand in a renamed model as it did
-lines_alike : (test : Term → Bool) (move : ℕ → ℕ) (ls ms : List Numbered) → AreRenamed move ls ms →
-    list_any (holds_in test) ms ≡ list_any (holds_in test) ls
+-- a test holds of a statement of a renamed model as it did
+lines_alike : (test : Statement → Bool) (move : ℕ → ℕ) (ls ms : List Numbered) → AreRenamed move ls ms →
+    list_any (λ (line : Numbered). test line.statement) ms ≡ list_any (λ (line : Numbered). test line.statement) ls
 lines_alike test move [] [] r = refl
 lines_alike test move [] (m ∷ ms) r = absurd r
 lines_alike test move (l ∷ ls) [] r = absurd r
-lines_alike test move (l ∷ ls) (m ∷ ms) r =
-    ap₂ (λ a b. a || b) (ap (λ (s : Statement). list_any (holds_of test) (operands_of_body s.body)) r.1)
-    (lines_alike test move ls ms r.2)
+lines_alike test move (l ∷ ls) (m ∷ ms) r = ap₂ (λ a b. a || b) (ap test r.1) (lines_alike test move ls ms r.2)
 
 unknown_renamed : (move : ℕ → ℕ) → IsMove move → (ls ms : List Numbered) → AreRenamed move ls ms → has_unknown_label ms ≡ has_unknown_label ls
 unfolding has_unknown_label
@@ -150,7 +148,8 @@ unknown_renamed move is ls ms r =
     let known : List ℕ → Bool = λ name. is_some (labelled_in name ls) in
     let known' : List ℕ → Bool = λ name. is_some (labelled_in name ms) in
     let same : known' ≡ known = fun_ext (known_renamed move is ls ms r) in
-    ap (λ test. list_any (holds_in (is_unknown_label test)) ms) same ∙ lines_alike (is_unknown_label known) move ls ms r
+    ap (λ test. list_any (holds_in (is_unknown_label test)) ms) same ∙
+    lines_alike (λ (s : Statement). list_any (holds_of (is_unknown_label known)) (operands_of_body s.body)) move ls ms r
 
 -- the same of definitions
 defined_renamed : (move : ℕ → ℕ) (name : List ℕ) (ls ms : List Numbered) → AreRenamed move ls ms → defined_in name ms ≡ defined_in name ls
@@ -171,13 +170,13 @@ missing_renamed : (move : ℕ → ℕ) (ls ms : List Numbered) → AreRenamed mo
 unfolding has_unknown_definition
 missing_renamed move ls ms r =
     ap (λ test. list_any (holds_in (is_undefined test)) ms) (definitions_renamed move ls ms r) ∙
-    lines_alike (is_undefined (definition ls)) move ls ms r
+    lines_alike (λ (s : Statement). list_any (holds_of (is_undefined (definition ls))) (operands_of_body s.body)) move ls ms r
 
 equ_renamed : (move : ℕ → ℕ) (ls ms : List Numbered) → AreRenamed move ls ms → has_equ_named ms ≡ has_equ_named ls
 unfolding has_equ_named
 equ_renamed move ls ms r =
     ap (λ test. list_any (holds_in (is_equ_named test)) ms) (definitions_renamed move ls ms r) ∙
-    lines_alike (is_equ_named (definition ls)) move ls ms r
+    lines_alike (λ (s : Statement). list_any (holds_of (is_equ_named (definition ls))) (operands_of_body s.body)) move ls ms r
 
 length_renamed : (move : ℕ → ℕ) (ls ms : List Numbered) → AreRenamed move ls ms → length ms ≡ length ls
 length_renamed move [] [] r = refl

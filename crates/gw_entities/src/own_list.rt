@@ -1,5 +1,5 @@
 ghost use Rattle.std.specs.Prelude.{◌≡◌, suc, ◌<◌, ◌≤◌, ◌+◌, ◌++◌, [], length, take, drop, Some, slice_get};
-ghost use Rattle.std.specs.Prelude.{IfOk, IfErr, OnOk, OnErr, ◌==◌};
+ghost use Rattle.std.specs.Prelude.{IfOk, IfErr, OnOk, OnErr, IsTrue, ◌==◌};
 ghost use Rattle.gw_names.specs.declared.key.Key.{Key};
 ghost use Rattle.gw_entities.specs.Owned.{own_of, with_own, without_own, all_of, said_by, AreRising, AreKnown, IsCut, StandsAt, EndsAt};
 
@@ -7,10 +7,14 @@ use crate::key_set::KeySet;
 use gw_names::Key;
 use gw_shared::SharedList;
 use std::alloc::{AllocError, Global};
+use std::cell::Cell;
 use std::marker::Model;
 
 // So many keys stay where all entries are forgotten.
 const FEW: usize = 32;
+
+// A list of at most so many entries is searched by halves at once.
+const SHORT: usize = 4;
 
 /// What transactions have of their own, by key: in order of the numbers of their transactions, and of each transaction
 /// in order of coming. A transaction is found by halves. Copies share what did not change.
@@ -18,6 +22,9 @@ const FEW: usize = 32;
 pub struct OwnList<V: Copy> {
     keys: KeySet,
     items: SharedList<Item<V>>,
+    // Where the entries of the transaction that was looked for last began. The next search starts there; no answer depends
+    // on it.
+    last: Cell<usize>,
 }
 
 // Something of a transaction, by the place of its key.
@@ -54,6 +61,7 @@ impl<V: Copy> OwnList<V> {
         OwnList {
             keys: KeySet::new(alloc),
             items: SharedList::new(alloc),
+            last: Cell::new(0),
         }
     }
 
@@ -124,7 +132,40 @@ impl<V: Copy> OwnList<V> {
     }
 
     // Where those of transactions with a number from this on begin.
+    #[inline(always)]
     fn first(&self, number: u64) -> usize
+        ensures { IsCut number self.now.entries result }
+    {
+        if self.items.len() <= SHORT {
+            return self.halved(number);
+        }
+        let last = self.last.get();
+        if self.begins_at(number, last) {
+            return last;
+        }
+        let first = self.halved(number);
+        self.last.set(first);
+        first
+    }
+
+    // Whether the entries of a transaction begin at an index.
+    #[inline(always)]
+    fn begins_at(&self, number: u64, index: usize) -> bool
+        ensures { IsTrue result → IsCut number self.now.entries index }
+    {
+        if index >= self.items.len() || self.items.at(index).number != number {
+            return false;
+        }
+        if index == 0 {
+            return true;
+        }
+        let before = self.items.at(index - 1);
+        before.number < number
+    }
+
+    // Where those of transactions with a number from this on begin, searched by halves.
+    #[inline(never)]
+    fn halved(&self, number: u64) -> usize
         ensures { IsCut number self.now.entries result }
     {
         let mut low = 0;
@@ -231,6 +272,7 @@ impl<V: Copy> OwnList<V> {
         Ok(OwnList {
             keys,
             items: self.items.copy()?,
+            last: Cell::new(self.last.get()),
         })
     }
 }

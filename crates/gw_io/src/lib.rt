@@ -6,6 +6,10 @@
 //! session makes [`READ_LIMIT`] at most.
 //!
 //! [`FromRead`] and [`ToWrite`] stand before std's readers and writers.
+//!
+//! Bytes read and written are accounted for. Each failure is counted once.
+//!
+//! Contracts: `read_line`, `split_model`, `read_all`, `write_all`.
 #![tactic(auto)]
 
 mod budget;

@@ -13,22 +13,23 @@ pub fn least(values: &[u64]) -> Option<u64>
         return None;
     }
     let (blocks, rest) = values.as_chunks::<8>();
-    let lanes = least_lanes(blocks).to_array();
-    Some(least_from(least_from(u64::MAX, &lanes), rest))
+    Some(least_from(least_in_blocks(blocks), rest))
 }
 
-// The least of each lane over the blocks, 18446744073709551615 where there is none.
-fn least_lanes(blocks: &[[u64; 8]]) -> u64x8
-    ensures { fold min 18446744073709551615 result ≡ fold min 18446744073709551615 (concat blocks.now) }
+// The least of the blocks, 18446744073709551615 where there is none. Eight comparisons follow one another without a test
+// between them: the processors for which the kit compiles have no vector instruction that compares such numbers.
+fn least_in_blocks(blocks: &[[u64; 8]]) -> u64
+    ensures { result ≡ fold min 18446744073709551615 (concat blocks.now) }
 {
-    let mut lanes = u64x8::splat(u64::MAX);
+    let mut least = u64::MAX;
     for block in blocks {
-        lanes = lanes.simd_min(u64x8::from_array(*block));
+        least = least_from(least, block);
     }
-    lanes
+    least
 }
 
 // The least of a number and the values.
+#[inline(always)]
 fn least_from(start: u64, values: &[u64]) -> u64
     ensures { result ≡ fold min start values.now }
 {

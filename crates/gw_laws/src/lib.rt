@@ -15,6 +15,8 @@
 //! gives a facility back. STARTs are done in order, and each is counted once. The future chain is in the order of
 //! coming onto it. The active transaction goes to its destination, or else to the next block. A TEST holds where its
 //! operator says so.
+//!
+//! Each law is the contract of one function without parameters. docs/proved.md has each in full, beside its function.
 #![tactic(auto)]
 
 mod laws;

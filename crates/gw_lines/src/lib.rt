@@ -11,6 +11,18 @@
 //!
 //! All goes by the forms of a verb's operands and by its operators. Where a further verb or kind of operand goes:
 //! docs/contributing.md.
+//!
+//! What is proved:
+//!
+//! - A text is read (`Ok`) only as what it spells, by a relation apart from the reader. What is spelled is read, or the
+//!   answer is out of memory. A fault is reported exactly where it is the first one, and by its code.
+//! - Operands are cut at commas, lines at line feeds and at bars.
+//! - The same holds of the lines of a model, and of the text of an edit.
+//! - What `list` prints of a statement that was read is read as that statement: as the text of an edit, and, with a
+//!   line end for each `|`, in a model.
+//!
+//! Contracts: `read_statement` (found, only, fault, faulty); `read_model` and `read_edit` (these, whole and exact);
+//! `texts_are_cut`, `models_are_read`, `edits_are_read`, `printed_is_read`; `LineFault::put_code`.
 #![tactic(auto)]
 
 mod atom;

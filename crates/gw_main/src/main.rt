@@ -1,4 +1,13 @@
 //! The what-if workbench for GPSS World models: a model and a script in, reports on standard output.
+//!
+//! What is proved:
+//!
+//! - The program does what the words ask for, as `clap` reads them, or refuses them for a named reason.
+//! - The model comes from standard input or from the opened file. Then follows the session, over a desk, or with
+//!   workers over a seat of a bench of that model that has seen nothing yet, with its status and what it writes to
+//!   standard error.
+//!
+//! Contracts: `run`, `read_words`, `complain`, `status`, `not_begun`.
 #![tactic(auto)]
 
 mod command;

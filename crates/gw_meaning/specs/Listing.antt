@@ -58,18 +58,18 @@ command_of line = command_of_body line.statement.body
 abbrev pub is_command : Numbered → Bool
 is_command line = is_some (command_of line)
 
--- the operands of a statement that is evaluated: those of a block, the expression of a VARIABLE, and the argument of a
--- FUNCTION or of a TABLE
-abbrev pub operands_of_definition : Definition → List (Option Term)
-operands_of_definition (definitions.Variable expression) = Some expression ∷ []
-operands_of_definition (definitions.Function function) = Some function.argument ∷ []
-operands_of_definition (definitions.Table table) = Some table.argument ∷ []
-operands_of_definition (definitions.Storage capacity) = []
-operands_of_definition (definitions.Equ value) = []
+-- what a definition evaluates: the expression of a VARIABLE, or the argument of a FUNCTION or of a TABLE
+abbrev pub operand_of_definition : Definition → Option Term
+operand_of_definition (definitions.Variable expression) = Some expression
+operand_of_definition (definitions.Function function) = Some function.argument
+operand_of_definition (definitions.Table table) = Some table.argument
+operand_of_definition (definitions.Storage capacity) = None
+operand_of_definition (definitions.Equ value) = None
 
+-- the operands of a statement that are evaluated: those of a block, and that of a definition
 abbrev pub operands_of_body : Body → List (Option Term)
 operands_of_body (bodies.Block block) = block.operands
-operands_of_body (bodies.Definition definition) = operands_of_definition definition
+operands_of_body (bodies.Definition definition) = operand_of_definition definition ∷ []
 operands_of_body (bodies.Command command) = []
 
 abbrev pub operands_of : Numbered → List (Option Term)

@@ -6,6 +6,10 @@
 //! Questions (what a step may ask), Evaluation (values and draws), Changes (what a move does to a state, and whom it
 //! wakes), Step (which move it is, and the run), Reads (what a run read), Point (where a report is taken). The types
 //! here are the plain data that they speak of.
+//!
+//! Copies are equal, and a statement has one printed text.
+//!
+//! Contracts: `Statement::copy`, `Statement::put_text`, `Block::operand`.
 #![tactic(auto)]
 
 mod asker;

@@ -1,6 +1,6 @@
 ghost use Rattle.std.specs.Prelude.{◌≡◌, IfOk, option_copied};
 ghost use Rattle.gw_meaning.specs.Statements.{operand, is_generate_verb, verb_of_definition, verb_of_command, verb_of_body};
-ghost use Rattle.gw_meaning.specs.Listing.{block_of, definition_of, command_of, is_block, is_command, is_generate};
+ghost use Rattle.gw_meaning.specs.Listing.{block_of, definition_of, command_of, is_block, is_command, is_generate, operand_of_definition};
 
 use crate::auxiliary::Auxiliary;
 use crate::statement_id::StatementId;
@@ -126,6 +126,18 @@ impl Definition {
             Definition::Variable { .. } => Verb::Definition(DefinitionVerb::Variable),
             Definition::Function(_) => Verb::Definition(DefinitionVerb::Function),
             Definition::Table(_) => Verb::Definition(DefinitionVerb::Table),
+        }
+    }
+
+    /// What the definition evaluates: the expression of a VARIABLE, or the argument of a FUNCTION or of a TABLE.
+    pub fn operand(&self) -> Option<&Expr>
+        ensures { option_copied result ≡ operand_of_definition self.now }
+    {
+        match self {
+            Definition::Variable { expression } => Some(expression),
+            Definition::Function(function) => Some(&function.argument),
+            Definition::Table(table) => Some(&table.argument),
+            Definition::Storage { .. } | Definition::Equ { .. } => None,
         }
     }
 

@@ -1,24 +1,14 @@
 -- Each scan for a model fault finds what the fault says, and nothing else: so the fault that is found is the first one.
-use Rattle.std.proofs.Common.{◌≡◌, ◌≢◌, ℕ, zero, suc, ◌<◌, ◌==◌, ◌||◌, not, Bool, true, false, List, [], ◌∷◌, length, Option, Some, None, is_some, refl, sym, ap, ◌∙◌, subst, ◌⊎◌, inl, inr, arith, nat_lt}
+use Rattle.std.proofs.Common.{◌≡◌, ◌≢◌, ℕ, zero, suc, ◌<◌, ◌==◌, ◌||◌, ◌&&◌, not, Bool, true, false, List, [], ◌∷◌, length, Option, Some, None, is_some, refl, sym, ap, ◌∙◌, subst, ◌⊎◌, inl, inr, arith, nat_lt}
 use Rattle.std.specs.List.{list_any, slice_get}
 use Rattle.std.specs.Prelude.{ℤ, if◌then◌else◌}
-use Rattle.std.proofs.lemmas.Bool.{cases_Bool, and_parts, and_from, both_ways, or_parts, or_right, lt-ltb, ltb-true, eqb-true}
-use Rattle.std.proofs.lemmas.Option.{get_or_from_slice_get}
+use Rattle.std.proofs.lemmas.Bool.{cases_Bool, and_parts, both_ways, or_parts, or_right, lt-ltb, ltb-true, eqb-true}
 use Rattle.std.proofs.lemmas.Slice.Eq.{bytes_eq-Decides}
-use Rattle.gw_names.specs.declared.class.Class.{Class}
 use Rattle.gw_names.specs.declared.verb.DefinitionVerb.{DefinitionVerb}
 use Rattle.gw_names.specs.declared.verb.DefinitionVerb.TheVariants as definition_verbs
 use Rattle.gw_names.specs.declared.verb.Verb.{Verb}
 use Rattle.gw_names.specs.declared.verb.Verb.TheVariants as verbs
-use Rattle.gw_expr.specs.declared.atom.Atom.{Atom}
-use Rattle.gw_expr.specs.declared.atom.Atom.TheVariants as atoms
-use Rattle.gw_expr.specs.declared.token.Token.{Token}
-use Rattle.gw_expr.specs.declared.token.Token.TheVariants as tokens
-use Rattle.gw_expr.specs.declared.attribute.Subject.{Subject}
-use Rattle.gw_expr.specs.declared.attribute.Subject.TheVariants as subjects
-use Rattle.gw_expr.specs.Term.{Term, HasAtom, holds_of_atom, holds_of_token}
-use Rattle.gw_expr.specs.declared.expr.Expr.TheVariants.{Value, Computed, Named, Defined, Table, Label, Fraction, Order}
-use Rattle.gw_meaning.specs.Listing.{Listing, operands_of, labelled_in, number_of, has_label}
+use Rattle.gw_meaning.specs.Listing.{Listing, labelled_in, has_label}
 use Rattle.gw_meaning.specs.Statements.{verb_of_definition}
 use Rattle.gw_meaning.specs.declared.statement.Definition.{Definition}
 use Rattle.gw_meaning.specs.declared.statement.Definition.TheVariants as definitions
@@ -26,31 +16,14 @@ use Rattle.gw_meaning.specs.declared.statement.Numbered.{Numbered}
 use Rattle.gw_meaning.specs.declared.statement.Replication.{Replication}
 use Rattle.gw_model.specs.declared.fault.ModelFault.{ModelFault}
 use Rattle.gw_model.specs.declared.fault.ModelFault.TheVariants.{TooMany, BadSeed, BadHorizon, LabelTwice, NoSuchLabel, NoSuchDefinition, EquNamedDefinition, Memory}
+use Rattle.gw_model.specs.declared.named.Needed.{Needed}
+use Rattle.gw_model.specs.declared.named.Needed.TheVariants as needed
 use Rattle.gw_model.specs.Listed.{counted_label}
-use Rattle.gw_model.specs.Faults.{is_too_long, is_outside, is_bad_replication, has_number, has_number_twice, has_bad_replication, is_bad_horizon, is_labelled, has_label_twice, holds_of, holds_in, is_of_block, wanted_verb, has_verb, has_verb_or_equ, lacks_definition, wants_equ, lacks_name, has_name, counts_unknown, is_unknown_label, has_unknown_label, has_no_value, is_undefined, has_unknown_definition, is_of_equ, is_equ_named, has_equ_named}
-use Rattle.gw_model.specs.FirstFaults.{HasOperand, IsOutside, name_in, NamesLabel, goes_to, counts, IsNoLabel, NamesDefinition, uses, tabulates, stands_for, asks_of, IsNeither, IsNoDefinition, HasFault, many_statements, many_replications, bad_seed, bad_number, number_twice, bad_horizon, bad_limit, label_twice, no_label, no_definition, equ_named, in_order, FirstOf, is_there, is_later, FoundAreFirst, FirstAreFound, NoneAreLeft}
+use Rattle.gw_model.specs.Faults.{is_too_long, is_outside, is_bad_replication, has_number, has_number_twice, has_bad_replication, is_bad_horizon, is_labelled, has_label_twice, has_verb, is_unknown_label, has_unknown_label, is_undefined, has_unknown_definition, is_equ_named, has_equ_named}
+use Rattle.gw_model.specs.FirstFaults.{HasOperand, IsOutside, IsNoLabel, IsNeither, IsNoDefinition, HasFault, many_statements, many_replications, bad_seed, bad_number, number_twice, bad_horizon, bad_limit, label_twice, no_label, no_definition, equ_named, in_order, FirstOf, is_there, is_later, FoundAreFirst, FirstAreFound, NoneAreLeft}
 use Rattle.gw_model.proofs.Apart.{none_of, numbers_apart, labels_apart}
-use Rattle.gw_model.proofs.Known.{known, definition, no_operand, no_atom, is_verb, verb_holds, equ_told, equ_is, other_than_equ}
-
--- ---- what a scan finds
-
--- a test that holds of some element holds of one at an index
-found_at : {X : Type 0} (p : X → Bool) (xs : List X) → list_any p xs ≡ true
-    → (i : ℕ) × (x : X) × (slice_get xs i ≡ Some x) × (p x ≡ true)
-found_at p [] h = absurd cc
-found_at p (x ∷ xs) h =
-    elim (cases_Bool (p x)) [
-      | inl holds ↦ (zero, x, refl, holds)
-      | inr fails ↦ let rest = found_at p xs (rw fails at h) in (suc rest.0, rest.1, rest.2, rest.3)
-    ]
-
--- the other way round
-holds_at : {X : Type 0} (p : X → Bool) (xs : List X) (i : ℕ) (x : X) → slice_get xs i ≡ Some x → p x ≡ true → list_any p xs ≡ true
-holds_at p xs i x e h =
-    elim (cases_Bool (list_any p xs)) [
-      | inl holds ↦ holds
-      | inr fails ↦ absurd (both_ways (p x) (none_of p xs fails i x e) h)
-    ]
+use Rattle.gw_model.proofs.Naming.{AreNaming, found_at, holds_at, named_found, named_holds, operand_holds, definition_holds}
+use Rattle.gw_model.proofs.Known.{known, definition, is_verb, verb_holds, equ_is}
 
 some_same : {X : Type 0} (x y : X) → Some x ≡ Some y → x ≡ y
 some_same x y e = cc
@@ -142,290 +115,110 @@ labels_found (line ∷ lines) h =
           (suc f.0, suc f.1, f.2, f.3, f.4, omega (arith, f.5), f.6, f.7, f.8, f.9)
     ]
 
--- ---- operands
-
--- a scan of operands finds one
-operand_found : (test : Term → Bool) (t : Listing) → list_any (holds_in test) t.lines ≡ true
-    → (term : Term) × HasOperand t term × (test term ≡ true)
-operand_found test t h =
-    let line = found_at (holds_in test) t.lines h in
-    let o = found_at (holds_of test) (operands_of line.1) line.3 in
-    go line.0 line.1 line.2 o.0 o.1 o.2 o.3
-  where
-    go : (i : ℕ) (line : Numbered) → slice_get t.lines i ≡ Some line → (place : ℕ) (o : Option Term)
-        → slice_get (operands_of line) place ≡ Some o → holds_of test o ≡ true
-        → (term : Term) × HasOperand t term × (test term ≡ true)
-    go i line e place None is holds = absurd cc
-    go i line e place (Some term) is holds = (
-      term,
-      record {
-        index = i;
-        place = place;
-        line = line;
-        is_line = e;
-        is_operand = get_or_from_slice_get (operands_of line) place (Some term) None is;
-      },
-      holds,
-    )
-
--- and each
-operand_holds : (test : Term → Bool) (t : Listing) (term : Term) → HasOperand t term → test term ≡ true
-    → list_any (holds_in test) t.lines ≡ true
-operand_holds test t term there holds =
-    elim (cases_Bool (list_any (holds_in test) t.lines)) [
-      | inl is ↦ is
-      | inr fails ↦ absurd (both_ways (test term)
-          (no_operand test t.lines fails there.index there.place there.line term there.is_line there.is_operand) holds)
-    ]
-
--- a test of values finds one
-token_found : (p : Atom → Bool) (token : Token) → holds_of_token p token ≡ true
-    → (atom : Atom) × (token ≡ tokens.Value atom) × (p atom ≡ true)
-token_found p (tokens.Value atom) h = (atom, refl, h)
-token_found p tokens.Negated h = absurd cc
-token_found p (tokens.Applied operator) h = absurd cc
-
-atom_found : (p : Atom → Bool) (term : Term) → holds_of_atom p term ≡ true → (atom : Atom) × HasAtom term atom × (p atom ≡ true)
-atom_found p (Value a) h = (a, refl, h)
-atom_found p (Computed ts) h =
-    let f = found_at (holds_of_token p) ts h in
-    let a = token_found p f.1 f.3 in
-    (a.0, (f.0, f.2 ∙ ap (λ (x : Token). Some x) a.1), a.2)
-atom_found p (Named name) h = absurd cc
-atom_found p (Label name) h = absurd cc
-atom_found p (Fraction n) h = absurd cc
-atom_found p (Defined name) h = absurd cc
-atom_found p (Table name) h = absurd cc
-atom_found p (Order discipline) h = absurd cc
-
--- and each
-atom_holds : (test : Term → Bool) (p : Atom → Bool) → ((a : Atom) → test (Value a) ≡ p a)
-    → ((ts : List Token) → test (Computed ts) ≡ list_any (holds_of_token p) ts) → (term : Term) (atom : Atom)
-    → HasAtom term atom → p atom ≡ true → test term ≡ true
-atom_holds test p one many term atom has holds =
-    elim (cases_Bool (test term)) [
-      | inl is ↦ is
-      | inr fails ↦ absurd (both_ways (p atom) (no_atom test p one many term atom fails has) holds)
-    ]
-
 -- ---- labels of no block
 
 none_there : (o : Option ℕ) → not (is_some o) ≡ true → o ≡ None
 none_there None h = refl
 none_there (Some n) h = absurd cc
 
-no_label_in : (t : Listing) (of : Subject) → lacks_name (known t.lines) of ≡ true → IsNoLabel t (name_in of)
-no_label_in t subjects.Own h = tt
-no_label_in t (subjects.Number n) h = tt
-no_label_in t (subjects.Name name) h = none_there (labelled_in name t.lines) h
-
-no_label_holds : (t : Listing) (of : Subject) → IsNoLabel t (name_in of) → lacks_name (known t.lines) of ≡ true
-no_label_holds t subjects.Own none = refl
-no_label_holds t (subjects.Number n) none = refl
-no_label_holds t (subjects.Name name) none = rw none refl
-
-abbrev NamesNoLabel : Listing → Term → Type 0
-NamesNoLabel t term = (name : Option (List ℕ)) × NamesLabel term name × IsNoLabel t name
-
-counts_found : (t : Listing) (term : Term) → holds_of_atom (counts_unknown (known t.lines)) term ≡ true → NamesNoLabel t term
-counts_found t term h = let f = atom_found (counts_unknown (known t.lines)) term h in go f.0 f.1 f.2 where
-  go : (atom : Atom) → HasAtom term atom → counts_unknown (known t.lines) atom ≡ true → NamesNoLabel t term
-  go (atoms.Constant value) has e = absurd cc
-  go (atoms.Number name) has e = absurd cc
-  go (atoms.Attribute class of) has e =
-      let parts = and_parts (is_of_block class) (lacks_name (known t.lines) of) e in
-      (name_in of, counts term class of has parts.0, no_label_in t of parts.1)
-
-unknown_found : (t : Listing) (term : Term) → is_unknown_label (known t.lines) term ≡ true → NamesNoLabel t term
+label_missing : (t : Listing) (name : Option (List ℕ)) → is_unknown_label (known t.lines) needed.Block name ≡ true → IsNoLabel t name
 unfolding is_unknown_label
-unknown_found t (Label name) h = (Some name, goes_to name, none_there (labelled_in name t.lines) h)
-unknown_found t (Value a) h = counts_found t (Value a) h
-unknown_found t (Computed ts) h = counts_found t (Computed ts) h
-unknown_found t (Named name) h = absurd cc
-unknown_found t (Fraction n) h = absurd cc
-unknown_found t (Defined name) h = absurd cc
-unknown_found t (Table name) h = absurd cc
-unknown_found t (Order discipline) h = absurd cc
+label_missing t None h = tt
+label_missing t (Some name) h = none_there (labelled_in name t.lines) h
 
-unknown_holds : (t : Listing) {term : Term} {name : Option (List ℕ)} → NamesLabel term name → IsNoLabel t name
-    → is_unknown_label (known t.lines) term ≡ true
+label_fails : (t : Listing) (name : Option (List ℕ)) → IsNoLabel t name → is_unknown_label (known t.lines) needed.Block name ≡ true
 unfolding is_unknown_label
-unknown_holds t (goes_to name) none = rw none refl
-unknown_holds t (counts term class of has is) none =
-    atom_holds (is_unknown_label (known t.lines)) (counts_unknown (known t.lines)) (λ a. refl) (λ ts. refl) term
-    (atoms.Attribute class of) has
-    (and_from (is_of_block class) (lacks_name (known t.lines) of) is (no_label_holds t of none))
+label_fails t None none = refl
+label_fails t (Some name) none = rw none refl
+
+-- what is named is the name of an operand
+operand : (t : Listing) {what : Needed} {name : Option (List ℕ)} → (n : AreNaming t.lines what name) → HasOperand t n.term
+operand t n = record { index = n.index; place = n.place; line = n.line; is_line = n.is_line; is_operand = n.is_operand }
+
+unknown_found : (t : Listing) (what : Needed) (name : Option (List ℕ)) → AreNaming t.lines what name
+    → is_unknown_label (known t.lines) what name ≡ true → HasFault t NoSuchLabel
+unfolding is_unknown_label
+unknown_found t needed.Block name n h = no_label t n.term name (operand t n) n.names (label_missing t name h)
+unknown_found t (needed.Definition verb) name n h = absurd cc
 
 -- ---- names without the definition that they need
-
-abbrev equ : Verb
-equ = verbs.Definition definition_verbs.Equ
 
 neither : (a b : Bool) → not (a || b) ≡ true → (a ≡ false) × (b ≡ false)
 neither true b h = absurd cc
 neither false true h = absurd cc
 neither false false h = (refl, refl)
 
-not_so : (a : Bool) → not a ≡ true → a ≡ false
-not_so true h = absurd cc
-not_so false h = refl
-
-no_verb : (verb : DefinitionVerb) (o : Option Definition) → not (has_verb_or_equ verb o) ≡ true → IsNeither (verbs.Definition verb) o
+no_verb : (verb : DefinitionVerb) (o : Option Definition) → not (has_verb verb o || has_verb definition_verbs.Equ o) ≡ true
+    → IsNeither (verbs.Definition verb) o
 no_verb verb None h = tt
 no_verb verb (Some d) h =
-    let n = neither (has_verb verb d) (has_verb definition_verbs.Equ d) h in (
-      λ e. both_ways (has_verb verb d) n.0 (verb_holds verb d e),
-      λ e. both_ways (has_verb definition_verbs.Equ d) n.1 (verb_holds definition_verbs.Equ d e),
+    let n = neither (has_verb verb (Some d)) (has_verb definition_verbs.Equ (Some d)) h in (
+      λ e. both_ways (has_verb verb (Some d)) n.0 (verb_holds verb d e),
+      λ e. both_ways (has_verb definition_verbs.Equ (Some d)) n.1 (verb_holds definition_verbs.Equ d e),
     )
 
-lacks_verb : (verb : DefinitionVerb) (d : Definition) → (verb_of_definition d ≢ verbs.Definition verb) → has_verb verb d ≡ false
+lacks_verb : (verb : DefinitionVerb) (d : Definition) → (verb_of_definition d ≢ verbs.Definition verb) → has_verb verb (Some d) ≡ false
 lacks_verb verb d other =
-    elim (cases_Bool (has_verb verb d)) [
+    elim (cases_Bool (has_verb verb (Some d))) [
       | inl is ↦ absurd (other (is_verb verb d is))
       | inr fails ↦ fails
     ]
 
-verb_fails : (verb : DefinitionVerb) (o : Option Definition) → IsNeither (verbs.Definition verb) o → not (has_verb_or_equ verb o) ≡ true
+verb_fails : (verb : DefinitionVerb) (o : Option Definition) → IsNeither (verbs.Definition verb) o
+    → not (has_verb verb o || has_verb definition_verbs.Equ o) ≡ true
 verb_fails verb None h = refl
 verb_fails verb (Some d) h = rw (lacks_verb verb d h.0, lacks_verb definition_verbs.Equ d h.1) refl
 
-no_number : (o : Option Definition) → not (is_some (number_of o)) ≡ true → IsNeither equ o
-no_number None h = tt
-no_number (Some d) h =
-    let f = not_so (has_verb definition_verbs.Equ d) (ap not (sym (equ_told d)) ∙ h) in (
-      λ e. both_ways (has_verb definition_verbs.Equ d) f (verb_holds definition_verbs.Equ d e),
-      λ e. both_ways (has_verb definition_verbs.Equ d) f (verb_holds definition_verbs.Equ d e),
-    )
-
-number_fails : (o : Option Definition) → IsNeither equ o → not (is_some (number_of o)) ≡ true
-number_fails None h = refl
-number_fails (Some d) h = ap not (equ_told d ∙ lacks_verb definition_verbs.Equ d h.0)
-
--- whether a name has a definition with a verb, or an EQU in its place
-abbrev with_verb : Listing → DefinitionVerb → List ℕ → Bool
-with_verb t verb name = has_verb_or_equ verb (definition t.lines name)
-
-no_definition_in : (t : Listing) (verb : DefinitionVerb) (of : Subject) → lacks_name (with_verb t verb) of ≡ true
-    → IsNoDefinition t (verbs.Definition verb) (name_in of)
-no_definition_in t verb subjects.Own h = tt
-no_definition_in t verb (subjects.Number n) h = tt
-no_definition_in t verb (subjects.Name name) h = no_verb verb (definition t.lines name) h
-
-no_definition_holds : (t : Listing) (verb : DefinitionVerb) (of : Subject) → IsNoDefinition t (verbs.Definition verb) (name_in of)
-    → lacks_name (with_verb t verb) of ≡ true
-no_definition_holds t verb subjects.Own none = refl
-no_definition_holds t verb (subjects.Number n) none = refl
-no_definition_holds t verb (subjects.Name name) none = verb_fails verb (definition t.lines name) none
-
-abbrev NamesNoDefinition : Listing → Term → Type 0
-NamesNoDefinition t term = (verb : Verb) × (name : Option (List ℕ)) × NamesDefinition term verb name × IsNoDefinition t verb name
-
-value_lacking : (t : Listing) (term : Term) → holds_of_atom (has_no_value (definition t.lines)) term ≡ true → NamesNoDefinition t term
-value_lacking t term h = let f = atom_found (has_no_value (definition t.lines)) term h in go f.0 f.1 f.2 where
-  go : (atom : Atom) → HasAtom term atom → has_no_value (definition t.lines) atom ≡ true → NamesNoDefinition t term
-  go (atoms.Constant value) has e = absurd cc
-  go (atoms.Number name) has e = (equ, Some name, stands_for term name has, no_number (definition t.lines name) e)
-  go (atoms.Attribute class of) has e = by_verb (wanted_verb class) refl e where
-    by_verb : (wanted : Option DefinitionVerb) → wanted_verb class ≡ wanted → lacks_definition (definition t.lines) wanted of ≡ true
-        → NamesNoDefinition t term
-    by_verb None is h = absurd cc
-    by_verb (Some verb) is h =
-        (verbs.Definition verb, name_in of, asks_of term class of verb has is, no_definition_in t verb of h)
-
-undefined_found : (t : Listing) (term : Term) → is_undefined (definition t.lines) term ≡ true → NamesNoDefinition t term
+definition_missing : (t : Listing) (verb : DefinitionVerb) (name : Option (List ℕ))
+    → is_undefined (definition t.lines) (needed.Definition verb) name ≡ true → IsNoDefinition t (verbs.Definition verb) name
 unfolding is_undefined
-undefined_found t (Defined name) h =
-    (verbs.Definition definition_verbs.Storage, Some name, uses name, no_verb definition_verbs.Storage (definition t.lines name) h)
-undefined_found t (Table name) h =
-    (verbs.Definition definition_verbs.Table, Some name, tabulates name, no_verb definition_verbs.Table (definition t.lines name) h)
-undefined_found t (Value a) h = value_lacking t (Value a) h
-undefined_found t (Computed ts) h = value_lacking t (Computed ts) h
-undefined_found t (Named name) h = absurd cc
-undefined_found t (Label name) h = absurd cc
-undefined_found t (Fraction n) h = absurd cc
-undefined_found t (Order discipline) h = absurd cc
+definition_missing t verb None h = tt
+definition_missing t verb (Some name) h = no_verb verb (definition t.lines name) h
 
-undefined_holds : (t : Listing) {term : Term} {verb : Verb} {name : Option (List ℕ)} → NamesDefinition term verb name
-    → IsNoDefinition t verb name → is_undefined (definition t.lines) term ≡ true
+definition_fails : (t : Listing) (verb : DefinitionVerb) (name : Option (List ℕ)) → IsNoDefinition t (verbs.Definition verb) name
+    → is_undefined (definition t.lines) (needed.Definition verb) name ≡ true
 unfolding is_undefined
-undefined_holds t (uses name) none = verb_fails definition_verbs.Storage (definition t.lines name) none
-undefined_holds t (tabulates name) none = verb_fails definition_verbs.Table (definition t.lines name) none
-undefined_holds t (stands_for term name has) none =
-    atom_holds (is_undefined (definition t.lines)) (has_no_value (definition t.lines)) (λ a. refl) (λ ts. refl) term
-    (atoms.Number name) has (number_fails (definition t.lines name) none)
-undefined_holds t (asks_of term class of verb has is) none =
-    atom_holds (is_undefined (definition t.lines)) (has_no_value (definition t.lines)) (λ a. refl) (λ ts. refl) term
-    (atoms.Attribute class of) has
-    (ap (λ (v : Option DefinitionVerb). lacks_definition (definition t.lines) v of) is ∙ no_definition_holds t verb of none)
+definition_fails t verb None none = refl
+definition_fails t verb (Some name) none = verb_fails verb (definition t.lines name) none
+
+undefined_found : (t : Listing) (what : Needed) (name : Option (List ℕ)) → AreNaming t.lines what name
+    → is_undefined (definition t.lines) what name ≡ true → HasFault t NoSuchDefinition
+unfolding is_undefined
+undefined_found t needed.Block name n h = absurd cc
+undefined_found t (needed.Definition verb) name n h =
+    no_definition t n.term (verbs.Definition verb) name (operand t n) n.names (definition_missing t verb name h)
 
 -- ---- names of EQUs in the place of another definition
 
-abbrev is_number : Listing → List ℕ → Bool
-is_number t name = is_some (number_of (definition t.lines name))
+not_so : (a : Bool) → not a ≡ true → a ≡ false
+not_so true h = absurd cc
+not_so false h = refl
 
-abbrev NamesEqu : Listing → Term → Type 0
-NamesEqu t term =
-    (verb : Verb) × (name : List ℕ) × (value : ℤ) × NamesDefinition term verb (Some name) × (verb ≢ equ)
-    × (definition t.lines name ≡ Some (definitions.Equ value))
+-- an EQU has no other verb
+equ_alone : (verb : DefinitionVerb) (value : ℤ) → (verb ≡ definition_verbs.Equ → ⊥)
+    → (has_verb definition_verbs.Equ (Some (definitions.Equ value)) && not (has_verb verb (Some (definitions.Equ value)))) ≡ true
+equ_alone definition_verbs.Equ value other = absurd (other refl)
+equ_alone verb value other = refl
 
-apart_from_equ : (verb : DefinitionVerb) → verb ≢ definition_verbs.Equ → verbs.Definition verb ≢ equ
-apart_from_equ verb other e = other cc
-
-equ_of : (t : Listing) (term : Term) (class : Class) (of : Subject) (verb : DefinitionVerb) → HasAtom term (atoms.Attribute class of)
-    → wanted_verb class ≡ Some verb → has_name (is_number t) of ≡ true → NamesEqu t term
-equ_of t term class subjects.Own verb has is h = absurd cc
-equ_of t term class (subjects.Number n) verb has is h = absurd cc
-equ_of t term class (subjects.Name name) verb has is h =
-    let there = equ_is (definition t.lines name) h in (
-      verbs.Definition verb,
-      name,
-      there.0,
-      asks_of term class (subjects.Name name) verb has is,
-      apart_from_equ verb (other_than_equ class verb is),
-      there.1,
-    )
-
-value_of_equ : (t : Listing) (term : Term) → holds_of_atom (is_of_equ (definition t.lines)) term ≡ true → NamesEqu t term
-value_of_equ t term h = let f = atom_found (is_of_equ (definition t.lines)) term h in go f.0 f.1 f.2 where
-  go : (atom : Atom) → HasAtom term atom → is_of_equ (definition t.lines) atom ≡ true → NamesEqu t term
-  go (atoms.Constant value) has e = absurd cc
-  go (atoms.Number name) has e = absurd cc
-  go (atoms.Attribute class of) has e = by_verb (wanted_verb class) refl e where
-    by_verb : (wanted : Option DefinitionVerb) → wanted_verb class ≡ wanted → wants_equ (definition t.lines) wanted of ≡ true → NamesEqu t term
-    by_verb None is h = absurd cc
-    by_verb (Some verb) is h = equ_of t term class of verb has is h
-
-equ_found : (t : Listing) (term : Term) → is_equ_named (definition t.lines) term ≡ true → NamesEqu t term
+equ_holds : (t : Listing) (verb : DefinitionVerb) (name : List ℕ) (value : ℤ) → definition t.lines name ≡ Some (definitions.Equ value)
+    → (verb ≡ definition_verbs.Equ → ⊥) → is_equ_named (definition t.lines) (needed.Definition verb) (Some name) ≡ true
 unfolding is_equ_named
-equ_found t (Defined name) h =
-    let there = equ_is (definition t.lines name) h in
-    (verbs.Definition definition_verbs.Storage, name, there.0, uses name, (λ e. cc), there.1)
-equ_found t (Table name) h =
-    let there = equ_is (definition t.lines name) h in
-    (verbs.Definition definition_verbs.Table, name, there.0, tabulates name, (λ e. cc), there.1)
-equ_found t (Value a) h = value_of_equ t (Value a) h
-equ_found t (Computed ts) h = value_of_equ t (Computed ts) h
-equ_found t (Named name) h = absurd cc
-equ_found t (Label name) h = absurd cc
-equ_found t (Fraction n) h = absurd cc
-equ_found t (Order discipline) h = absurd cc
+equ_holds t verb name value e other =
+    ap (λ (o : Option Definition). has_verb definition_verbs.Equ o && not (has_verb verb o)) e ∙ equ_alone verb value other
 
-equ_holds : (t : Listing) {term : Term} {verb : Verb} {there : Option (List ℕ)} → NamesDefinition term verb there → (name : List ℕ)
-    → there ≡ Some name → verb ≢ equ → (value : ℤ) → definition t.lines name ≡ Some (definitions.Equ value)
-    → is_equ_named (definition t.lines) term ≡ true
+equ_found : (t : Listing) (what : Needed) (name : Option (List ℕ)) → AreNaming t.lines what name
+    → is_equ_named (definition t.lines) what name ≡ true → HasFault t EquNamedDefinition
 unfolding is_equ_named
-equ_holds t (uses name) n same other value e =
-    ap (λ (x : List ℕ). is_number t x) (some_same name n same) ∙ ap (λ (o : Option Definition). is_some (number_of o)) e
-equ_holds t (tabulates name) n same other value e =
-    ap (λ (x : List ℕ). is_number t x) (some_same name n same) ∙ ap (λ (o : Option Definition). is_some (number_of o)) e
-equ_holds t (stands_for term name has) n same other value e = absurd (other refl)
-equ_holds t (asks_of term class (subjects.Name name) verb has is) n same other value e =
-    atom_holds (is_equ_named (definition t.lines)) (is_of_equ (definition t.lines)) (λ a. refl) (λ ts. refl) term
-    (atoms.Attribute class (subjects.Name name)) has
-    (ap (λ (v : Option DefinitionVerb). wants_equ (definition t.lines) v (subjects.Name name)) is
-    ∙ (ap (λ (x : List ℕ). is_number t x) (some_same name n same) ∙ ap (λ (o : Option Definition). is_some (number_of o)) e))
-equ_holds t (asks_of term class subjects.Own verb has is) n same other value e = absurd cc
-equ_holds t (asks_of term class (subjects.Number m) verb has is) n same other value e = absurd cc
+equ_found t needed.Block name n h = absurd cc
+equ_found t (needed.Definition verb) None n h = absurd cc
+equ_found t (needed.Definition verb) (Some name) n h =
+    let o = definition t.lines name in
+    let parts = and_parts (has_verb definition_verbs.Equ o) (not (has_verb verb o)) h in
+    let there = equ_is o parts.0 in
+    equ_named t n.term (verbs.Definition verb) name there.0 (operand t n) n.names
+    (λ e. (let same : verb ≡ definition_verbs.Equ = cc in
+    both_ways (has_verb verb o) (not_so (has_verb verb o) parts.1) (ap (λ (v : DefinitionVerb). has_verb v o) same ∙ parts.0)))
+    there.1
 
 -- ---- each fault, and the first one
 
@@ -447,17 +240,11 @@ test_found t BadHorizon h = bounds_found t h
 test_found t LabelTwice h =
     let f = labels_found t.lines h in label_twice t f.0 f.1 f.2 f.3 f.4 f.5 f.6 f.7 f.8 f.9
 test_found t NoSuchLabel h =
-    let o = operand_found (is_unknown_label (known t.lines)) t h in
-    let f = unknown_found t o.0 o.2 in
-    no_label t o.0 f.0 o.1 f.1 f.2
+    let f = named_found (is_unknown_label (known t.lines)) t.lines h in unknown_found t f.0 f.1 f.2 f.3
 test_found t NoSuchDefinition h =
-    let o = operand_found (is_undefined (definition t.lines)) t h in
-    let f = undefined_found t o.0 o.2 in
-    no_definition t o.0 f.0 f.1 o.1 f.2 f.3
+    let f = named_found (is_undefined (definition t.lines)) t.lines h in undefined_found t f.0 f.1 f.2 f.3
 test_found t EquNamedDefinition h =
-    let o = operand_found (is_equ_named (definition t.lines)) t h in
-    let f = equ_found t o.0 o.2 in
-    equ_named t o.0 f.0 f.1 f.2 o.1 f.3 f.4 f.5
+    let f = named_found (is_equ_named (definition t.lines)) t.lines h in equ_found t f.0 f.1 f.2 f.3
 test_found t Memory h = absurd cc
 
 -- a scan that finds nothing leaves nothing
@@ -485,11 +272,26 @@ test_holds (bad_limit t out) =
 test_holds (label_twice t i j k l name less e g p q) =
     unless (has_label_twice t.lines) (λ fails. labels_apart t.lines fails i j k l name name less e g p q refl)
 test_holds (no_label t term name there names none) =
-    operand_holds (is_unknown_label (known t.lines)) t term there (unknown_holds t names none)
+    named_holds (is_unknown_label (known t.lines)) t.lines needed.Block name
+    (record {
+      index = there.index;
+      place = there.place;
+      line = there.line;
+      term = term;
+      is_line = there.is_line;
+      is_operand = there.is_operand;
+      names = names;
+    })
+    (label_fails t name none)
 test_holds (no_definition t term verb name there names none) =
-    operand_holds (is_undefined (definition t.lines)) t term there (undefined_holds t names none)
+    let test = is_undefined (definition t.lines) in
+    operand_holds test t.lines there.index there.place there.line term there.is_line there.is_operand
+    (definition_holds test names (λ v e. definition_fails t v name (subst (λ (u : Verb). IsNoDefinition t u name) e none)))
 test_holds (equ_named t term verb name value there names other e) =
-    operand_holds (is_equ_named (definition t.lines)) t term there (equ_holds t names name refl other value e)
+    let test = is_equ_named (definition t.lines) in
+    operand_holds test t.lines there.index there.place there.line term there.is_line there.is_operand
+    (definition_holds test names
+    (λ v is. equ_holds t v name value e (λ same. other (is ∙ ap (λ (u : DefinitionVerb). verbs.Definition u) same))))
 
 -- the first of these faults whose scan finds something
 abbrev first_in : Listing → List ModelFault → Option ModelFault

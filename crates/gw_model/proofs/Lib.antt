@@ -5,6 +5,7 @@ pub mod Once
 pub mod Wellness
 pub mod Making
 pub mod Apart
+pub mod Naming
 pub mod Known
 pub mod FirstFaults
 pub mod Answering

@@ -96,7 +96,7 @@ sound_from t w =
     let twice : has_label_twice t.lines ≡ false = labels_once t.lines w.labels_apart in
     let unknown : has_unknown_label t.lines ≡ false = labels_known t.lines w.labels_there w.counts_there in
     let missing : has_unknown_definition t.lines ≡ false =
-    definitions_known t.lines w.storages_there w.tables_there w.numbers_there w.definitions_there in
+    definitions_known t.lines w.storages_there w.tables_there w.definitions_there w.numbers_there in
     let equ : has_equ_named t.lines ≡ false = none_equ_named t.lines w.storages_there w.tables_there w.definitions_there in
     rw (twice, unknown, missing, equ)
 

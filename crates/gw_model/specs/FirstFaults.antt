@@ -8,7 +8,6 @@ use Rattle.gw_names.specs.declared.verb.Verb.{Verb}
 use Rattle.gw_names.specs.declared.verb.Verb.TheVariants as verbs
 use Rattle.gw_expr.specs.declared.atom.Atom.TheVariants as atoms
 use Rattle.gw_expr.specs.declared.attribute.Subject.{Subject}
-use Rattle.gw_expr.specs.declared.attribute.Subject.TheVariants as subjects
 use Rattle.gw_expr.specs.Term.{Term, HasAtom}
 use Rattle.gw_expr.specs.declared.expr.Expr.TheVariants.{Defined, Table, Label}
 use Rattle.gw_meaning.specs.Listing.{Listing, operand_of, definition_at, label_at}
@@ -20,7 +19,8 @@ use Rattle.gw_meaning.specs.declared.statement.Replication.{Replication}
 use Rattle.gw_model.specs.declared.fault.ModelFault.{ModelFault}
 use Rattle.gw_model.specs.declared.fault.ModelFault.TheVariants.{TooMany, BadSeed, BadHorizon, LabelTwice, NoSuchLabel, NoSuchDefinition, EquNamedDefinition}
 use Rattle.gw_model.specs.Listed.{counted_label}
-use Rattle.gw_model.specs.Faults.{fault_of, is_of_block, wanted_verb}
+use Rattle.gw_model.specs.Named.{is_of_block, name_in, wanted_verb}
+use Rattle.gw_model.specs.Faults.{fault_of}
 
 -- an operand of a block, the expression of a VARIABLE, or the argument of a FUNCTION or of a TABLE
 pub record HasOperand (t : Listing) (term : Term) : Type 0 where
@@ -33,11 +33,6 @@ pub record HasOperand (t : Listing) (term : Term) : Type 0 where
 -- out of a range
 abbrev pub IsOutside : ℕ → ℕ → ℕ → Type 0
 IsOutside least greatest n = (n < least) ⊎ (greatest < n)
-
--- the name of what an attribute is of, where it has one
-abbrev pub name_in : Subject → Option (List ℕ)
-name_in (subjects.Name name) = Some name
-name_in of = None
 
 -- an operand that is a label, or counts the block with a label: its name, where it has one
 pub data NamesLabel : Term → Option (List ℕ) → Type 0 where

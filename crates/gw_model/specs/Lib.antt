@@ -1,5 +1,6 @@
 pub mod Listed
 pub mod Spliced
+pub mod Named
 pub mod Faults
 pub mod Well
 pub mod FirstFaults

@@ -11,7 +11,7 @@ use Rattle.gw_expr.specs.declared.attribute.Subject.{Subject}
 use Rattle.gw_expr.specs.declared.attribute.Subject.TheVariants as subjects
 use Rattle.gw_meaning.specs.Listing.{Listing, operand_of, defined_in, definition_at, label_at}
 use Rattle.gw_model.specs.Listed.{counted_label}
-use Rattle.gw_model.specs.Faults.{is_of_block, wanted_verb}
+use Rattle.gw_model.specs.Named.{is_of_block, wanted_verb}
 use Rattle.gw_meaning.specs.Statements.{verb_of_definition}
 use Rattle.gw_meaning.specs.declared.statement.Definition.{Definition}
 use Rattle.gw_meaning.specs.declared.statement.Definition.TheVariants as definitions

@@ -8,9 +8,8 @@ ghost use Rattle.gw_model.specs.Faults.{IsFault, label_fault_of, has_label_twice
 ghost use Rattle.gw_model.specs.Listed.{counted_label};
 ghost use Rattle.gw_model.specs.Tables.{is_told};
 
-use crate::definitions::{has_equ_named, has_unknown_definition};
 use crate::fault::ModelFault;
-use crate::labels::has_unknown_label;
+use crate::missing::{has_equ_named, has_unknown_definition, has_unknown_label};
 use gw_meaning::{Body, Definition, Numbered, StatementId};
 use gw_names::Name;
 use std::alloc::{AllocError, Global};

@@ -2,6 +2,11 @@
 //!
 //! [`Verb`] has every verb of the language, so that none of them is ever a name. [`Name::read`] gives the upper-case
 //! name that a text spells, or nothing where it spells none.
+//!
+//! Verbs and attribute classes are no names. What names an entity or a storage keeps the key of that name. Keys are
+//! compared and hashed by what they name, and their clones are equal.
+//!
+//! Contracts: `Name::read`, `Verb::read`, `is_class`, `Key`.
 #![tactic(auto)]
 
 mod class;

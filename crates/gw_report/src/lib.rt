@@ -5,6 +5,11 @@
 //! `specs/Report.antt`, and `report.rt` name the sections in the same order. The lines of a section are written in
 //! place over blanks (`sheet.rt`): those of the blocks, the tables and the chains cell by cell, the others by a table of
 //! their columns (`column.rt`).
+//!
+//! The bytes of a report are the definition's, for any state and outcome. A class of a table counts the values within
+//! its limits. (That its line prints these counts is the definition's.)
+//!
+//! Contracts: `print`, `renamed_text`, `classes_hold`.
 #![tactic(auto)]
 
 mod blocks;

@@ -1,8 +1,8 @@
-ghost use Rattle.std.specs.Prelude.{◌≡◌, ◌<◌, ◌^◌, ◌-◌, ◌++◌, ◌∷◌, [], OnOk, IfOk};
+ghost use Rattle.std.specs.Prelude.{◌≡◌, ◌<◌, ◌^◌, ◌-◌, ◌++◌, ◌∷◌, [], OnOk, IfOk, option_copied};
 ghost use Rattle.std.specs.List.{flat_map};
 ghost use Rattle.indexmap.specs.IndexSet.{insert_all};
 ghost use Rattle.gw_names.specs.Keys.{key_eq};
-ghost use Rattle.gw_meaning.specs.Listing.{label_at, number_at, operands_of_definition};
+ghost use Rattle.gw_meaning.specs.Listing.{label_at, number_at};
 ghost use Rattle.gw_report.specs.Layout.{row_of, rows_of, heading_of};
 ghost use Rattle.gw_report.specs.Names.{name_columns, name_line, name_lines, names_in, names_of, names_text};
 ghost use Rattle.gw_report.specs.Names.{names_in_atom, names_in_operand, names_in_term, names_in_token, next_behind};
@@ -13,7 +13,7 @@ use crate::position::position_of;
 use crate::section::put_section;
 use crate::sheet::Sheet;
 use gw_expr::{Atom, Expr, Subject, Token};
-use gw_meaning::{Body, Definition, Numbered};
+use gw_meaning::{Body, Numbered};
 use gw_model::Version;
 use gw_names::{Key, Name};
 use indexmap::IndexSet;
@@ -53,7 +53,7 @@ fn names_of(alloc: Global, version: &Version) -> Result<IndexSet<Key>, AllocErro
     Ok(names)
 }
 
-// Adds what a statement names.
+// Adds what a statement names: its label, and then what its operands name.
 fn add_statement(names: &mut IndexSet<Key>, line: &Numbered) -> Result<(), AllocError>
     ensures { OnOk result (names.new.keys ≡ insert_all key_eq names.old.keys (as_keys (names_of line.now))) }
 {
@@ -62,21 +62,8 @@ fn add_statement(names: &mut IndexSet<Key>, line: &Numbered) -> Result<(), Alloc
     }
     match &line.statement.body {
         Body::Block(block) => add_operands(names, block.operands.as_slice()),
-        Body::Definition(definition) => add_definition(names, definition),
+        Body::Definition(definition) => add_operand(names, definition.operand()),
         Body::Command(_) => Ok(()),
-    }
-}
-
-// Adds what the expression of a VARIABLE names, or the argument of a FUNCTION or of a TABLE.
-fn add_definition(names: &mut IndexSet<Key>, definition: &Definition) -> Result<(), AllocError>
-    ensures { OnOk result (names.new.keys ≡ insert_all key_eq names.old.keys
-        (as_keys (flat_map names_in_operand (operands_of_definition definition.now)))) }
-{
-    match definition {
-        Definition::Variable { expression } => add_term(names, expression),
-        Definition::Function(function) => add_term(names, &function.argument),
-        Definition::Table(table) => add_term(names, &table.argument),
-        Definition::Storage { .. } | Definition::Equ { .. } => Ok(()),
     }
 }
 
@@ -86,15 +73,15 @@ fn add_operands(names: &mut IndexSet<Key>, operands: &[Option<Expr>]) -> Result<
         insert_all key_eq names.old.keys (as_keys (flat_map names_in_operand operands.now))) }
 {
     for operand in operands {
-        add_operand(names, operand)?;
+        add_operand(names, operand.as_ref())?;
     }
     Ok(())
 }
 
 // Adds what an operand names.
-fn add_operand(names: &mut IndexSet<Key>, operand: &Option<Expr>) -> Result<(), AllocError>
+fn add_operand(names: &mut IndexSet<Key>, operand: Option<&Expr>) -> Result<(), AllocError>
     ensures { OnOk result (names.new.keys ≡
-        insert_all key_eq names.old.keys (as_keys (names_in_operand operand.now))) }
+        insert_all key_eq names.old.keys (as_keys (names_in_operand (option_copied operand.entry)))) }
 {
     match operand {
         Some(expr) => add_term(names, expr),

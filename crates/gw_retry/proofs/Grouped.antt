@@ -1,10 +1,9 @@
 -- Where the groups of waiters begin and end, and what is left of them after one joins or a group goes.
 use Rattle.std.proofs.Common.{◌≡◌, ◌⊎◌, inl, inr, ⊎_elim, ℕ, zero, suc, ◌+◌, ◌-◌, ◌<◌, ◌≤◌, Bool, true, false, cond, not, ◌&&◌, nat_lt, List, [], ◌∷◌, ◌++◌, filter, length, take, drop, get_or, slice_get, Some, refl, sym, ap, ap₂, subst, ◌∙◌, arith, append-nil}
-use Rattle.std.specs.Prelude.{remove}
 use Rattle.std.specs.List.{All}
 use Rattle.std.specs.List.Sorted.{IsPermutation}
 use Rattle.std.proofs.lemmas.Bool.Decides.{nat_tests}
-use Rattle.std.proofs.lemmas.List.{length-take-le, length-drop, get_or-take, get_or-drop, get_or-append_right, take-append-drop, take_more, take_at, drop_at, drop-drop}
+use Rattle.std.proofs.lemmas.List.{length-take-le, length-drop, get_or-take, get_or-drop, take-append-drop, drop-drop}
 use Rattle.std.proofs.lemmas.List.Elements.{All-cons, All-head, All-tail, All-append, All-take, All-drop, All-weaker, All-filter, filter-append, filter_agree, filter_passes}
 use Rattle.std.proofs.lemmas.List.Sorted.{IsPermutation-insert, IsNonDecreasingBy-insert}
 use Rattle.std.proofs.lemmas.Option.{slice_get_cases, get_or_from_slice_get}
@@ -145,28 +144,6 @@ module _ (ws : List Waiting) (place i j : ℕ) (here : IsCut place ws i) (next :
       (all_stay (is_at place) back (none_passes (is_at place) back back_apart)) ∙
       ap (λ l. front ++ (l ++ back)) (none_passes away middle
       (All-weaker (λ w. is_at place w ≡ true) (λ w. away w ≡ false) (λ w h. ap not h) middle middle_there)))))
-
--- one of them is taken out, after others of them
-pub one_taken : (xs ys : List Waiting) (i n : ℕ) (x : Waiting) → ys ≡ take i xs ++ drop (i + n) xs → i + n < length xs → slice_get ys i ≡ Some x →
-    take (n + 1) (drop i xs) ≡ take n (drop i xs) ++ x ∷ []
-one_taken xs ys i n x are within there =
-    let long : length (take i xs) ≡ i = length-take-le i xs (omega (arith, within)) in
-    let is : get_or (drop i xs) n x ≡ x =
-    get_or-drop i xs n x ∙ (ap (λ k. get_or xs k x) (omega arith) ∙ (sym (get_or-drop (i + n) xs (i - i) x) ∙
-    (sym (get_or-append_right (take i xs) (drop (i + n) xs) i i x long (omega arith)) ∙
-    (ap (λ l. get_or l i x) (sym are) ∙ get_or_from_slice_get ys i x x there)))) in
-    take_more (drop i xs) n x (omega (arith, within, length-drop i xs)) ∙ ap (λ y. take n (drop i xs) ++ y ∷ []) is
-
-pub one_out : (xs ys zs : List Waiting) (i n : ℕ) → ys ≡ take i xs ++ drop (i + n) xs → i + n < length xs → zs ≡ remove ys i →
-    zs ≡ take i xs ++ drop (i + (n + 1)) xs
-one_out xs ys zs i n are within out =
-    let long : length (take i xs) ≡ i = length-take-le i xs (omega (arith, within)) in
-    let front : take i ys ≡ take i xs = ap (take i) are ∙ take_at (take i xs) (drop (i + n) xs) i long in
-    let rest : drop i ys ≡ drop (i + n) xs = ap (drop i) are ∙ drop_at (take i xs) (drop (i + n) xs) i long in
-    let back : drop (suc i) ys ≡ drop (i + (n + 1)) xs =
-    ap (λ k. drop k ys) (let e : suc i ≡ i + 1 = omega arith in e) ∙ (sym (drop-drop 1 i ys) ∙ (ap (drop 1) rest ∙ (drop-drop 1 (i + n) xs ∙
-    ap (λ k. drop k xs) (let e : i + n + 1 ≡ i + (n + 1) = omega arith in e)))) in
-    out ∙ ap₂ (λ a b. a ++ b) front back
 
 -- ---- groups that go one after another
 

@@ -80,7 +80,5 @@ pub(crate) fn take_group(waiting: &mut SharedList<Waiting>, place: usize, going:
 {
     let start = start_of(waiting, place);
     let count = end_of(waiting, place) - start;
-    for _index in 0..count {
-        going.push_reserved(waiting.remove(start));
-    }
+    waiting.take_run(start, count, going);
 }

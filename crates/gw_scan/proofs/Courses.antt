@@ -1,15 +1,13 @@
 -- What was decided can be made where it is the step's, and a course goes on as the evaluation that was decided says.
-use Rattle.std.proofs.Common.{◌≡◌, ℕ, List, Option, Some, None, Result, Ok, Err, refl, sym, subst, ◌∙◌}
+use Rattle.std.proofs.Common.{◌≡◌, ℕ, List, Option, Some, Result, Ok, Err, refl, sym, subst, ◌∙◌}
 use Rattle.gw_streams.specs.declared.stream.Stream.{Stream}
 use Rattle.gw_expr.specs.declared.halt.Halt.{Halt}
-use Rattle.gw_expr.specs.declared.halt.Halt.TheVariants as halts
 use Rattle.gw_meaning.specs.declared.item.Item.TheVariants as items
 use Rattle.gw_meaning.specs.declared.moves.Move.{Move}
 use Rattle.gw_meaning.specs.declared.statement.Block.{Block}
 use Rattle.gw_meaning.specs.declared.transaction.Transaction.{Transaction}
 use Rattle.gw_meaning.specs.Listing.{Listing, block_at}
 use Rattle.gw_meaning.specs.Machine.{Machine}
-use Rattle.gw_meaning.specs.Questions.{result_of}
 use Rattle.gw_meaning.specs.Evaluation.{Eval}
 use Rattle.gw_meaning.specs.Step.{move_prog, scan_prog, meet_prog}
 use Rattle.gw_frame.proofs.Decided.{move_is_decided}

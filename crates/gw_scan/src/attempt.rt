@@ -1,6 +1,7 @@
 // The active transaction tries a block: it meets the one that it goes to, and what its verb decides is handed on at
 // once, so that it is taken where it is known which kind of move it is.
-ghost use Rattle.std.specs.Prelude.{◌≡◌, ◌<◌};
+ghost use Rattle.std.specs.Prelude.{◌≡◌, ◌<◌, option_copied};
+ghost use Rattle.gw_meaning.specs.Statements.{operand};
 ghost use Rattle.gw_meaning.specs.Step.{buffer_prog, mark_prog, scan_prog};
 ghost use Rattle.gw_asking.specs.Noted.{Noted};
 ghost use Rattle.gw_asking.specs.Deciding.{Decides};
@@ -10,7 +11,7 @@ use crate::course::Course;
 use crate::hand_on::hand_on;
 use crate::scanning::decide_scan;
 use gw_asking::{Notes, Run, ask_block, ask_next};
-use gw_expr::{Halt, Stop};
+use gw_expr::{Expr, Halt, Stop};
 use gw_meaning::operands::{A, B, C, D, E};
 use gw_meaning::{Block, Move, StatementId};
 use gw_names::BlockVerb;
@@ -64,9 +65,6 @@ fn meet<R: Course>(
     };
     let asker = &for_one(state, x);
     let context = Context { state, asker, run };
-    let a = block.operand(A);
-    let b = block.operand(B);
-    let c = block.operand(C);
     let beside = block.auxiliary;
     match block.verb {
         BlockVerb::Generate => {
@@ -75,79 +73,79 @@ fn meet<R: Course>(
                 notes,
                 x,
                 id,
-                a,
-                b,
-                block.operand(D),
-                block.operand(E),
+                a(block),
+                b(block),
+                d(block),
+                e(block),
             );
             hand_on_met(to, course, run, notes, id, block)
         }
         BlockVerb::Advance => {
-            let to = decide_advance(context, notes, id, a, b);
+            let to = decide_advance(context, notes, id, a(block), b(block));
             hand_on_met(to, course, run, notes, id, block)
         }
         BlockVerb::Terminate => {
-            let to = decide_terminate(context, notes, id, a);
+            let to = decide_terminate(context, notes, id, a(block));
             hand_on_met(to, course, run, notes, id, block)
         }
         BlockVerb::Queue => {
-            let to = decide_queue(context, notes, id, a, b);
+            let to = decide_queue(context, notes, id, a(block), b(block));
             hand_on_met(to, course, run, notes, id, block)
         }
         BlockVerb::Depart => {
-            let to = decide_depart(context, notes, x, id, a, b);
+            let to = decide_depart(context, notes, x, id, a(block), b(block));
             hand_on_met(to, course, run, notes, id, block)
         }
         BlockVerb::Seize => {
-            let to = decide_seize(context, notes, id, a);
+            let to = decide_seize(context, notes, id, a(block));
             hand_on_met(to, course, run, notes, id, block)
         }
         BlockVerb::Release => {
-            let to = decide_release(context, notes, x, id, a);
+            let to = decide_release(context, notes, x, id, a(block));
             hand_on_met(to, course, run, notes, id, block)
         }
         BlockVerb::Enter => {
-            let to = decide_enter(context, notes, id, a, b);
+            let to = decide_enter(context, notes, id, a(block), b(block));
             hand_on_met(to, course, run, notes, id, block)
         }
         BlockVerb::Leave => {
-            let to = decide_leave(context, notes, id, a, b);
+            let to = decide_leave(context, notes, id, a(block), b(block));
             hand_on_met(to, course, run, notes, id, block)
         }
         BlockVerb::Transfer => {
-            let to = decide_transfer(run, notes, id, a, b, c);
+            let to = decide_transfer(run, notes, id, a(block), b(block), c(block));
             hand_on_met(to, course, run, notes, id, block)
         }
         BlockVerb::Test => {
-            let to = decide_test(context, notes, id, beside, a, b, c);
+            let to = decide_test(context, notes, id, beside, a(block), b(block), c(block));
             hand_on_met(to, course, run, notes, id, block)
         }
         BlockVerb::Gate => {
-            let to = decide_gate(context, notes, id, beside, a, b);
+            let to = decide_gate(context, notes, id, beside, a(block), b(block));
             hand_on_met(to, course, run, notes, id, block)
         }
         BlockVerb::Logic => {
-            let to = decide_logic(context, notes, id, beside, a);
+            let to = decide_logic(context, notes, id, beside, a(block));
             hand_on_met(to, course, run, notes, id, block)
         }
         BlockVerb::Savevalue => {
-            let to = decide_savevalue(context, notes, id, beside, a, b);
+            let to = decide_savevalue(context, notes, id, beside, a(block), b(block));
             hand_on_met(to, course, run, notes, id, block)
         }
         BlockVerb::Tabulate => {
-            let to = decide_tabulate(context, notes, id, a);
+            let to = decide_tabulate(context, notes, id, a(block));
             hand_on_met(to, course, run, notes, id, block)
         }
         BlockVerb::Split => {
-            let to = decide_split(context, notes, id, a, b);
+            let to = decide_split(context, notes, id, a(block), b(block));
             hand_on_met(to, course, run, notes, id, block)
         }
         BlockVerb::Link => {
-            let to = decide_link(context, notes, id, a, b);
+            let to = decide_link(context, notes, id, a(block), b(block));
             hand_on_met(to, course, run, notes, id, block)
         }
         BlockVerb::Unlink => {
-            let to = decide_unlink(context, notes, id, a, b, c);
+            let to = decide_unlink(context, notes, id, a(block), b(block), c(block));
             hand_on_met(to, course, run, notes, id, block)
         }
         BlockVerb::Mark => {
@@ -155,7 +153,7 @@ fn meet<R: Course>(
             hand_on_met(to, course, run, notes, id, block)
         }
         BlockVerb::Priority => {
-            let to = decide_priority(context, notes, id, a);
+            let to = decide_priority(context, notes, id, a(block));
             hand_on_met(to, course, run, notes, id, block)
         }
         BlockVerb::Buffer => {
@@ -163,14 +161,50 @@ fn meet<R: Course>(
             hand_on_met(to, course, run, notes, id, block)
         }
         BlockVerb::Assign => {
-            let to = decide_assign(context, notes, id, beside, a, b);
+            let to = decide_assign(context, notes, id, beside, a(block), b(block));
             hand_on_met(to, course, run, notes, id, block)
         }
         BlockVerb::Loop => {
-            let to = decide_loop(context, notes, id, a, b);
+            let to = decide_loop(context, notes, id, a(block), b(block));
             hand_on_met(to, course, run, notes, id, block)
         }
     }
+}
+
+// The operands of a block, from A on.
+#[inline(always)]
+fn a(block: &Block) -> Option<&Expr>
+    ensures { option_copied result ≡ operand block.now 0 }
+{
+    block.operand(A)
+}
+
+#[inline(always)]
+fn b(block: &Block) -> Option<&Expr>
+    ensures { option_copied result ≡ operand block.now 1 }
+{
+    block.operand(B)
+}
+
+#[inline(always)]
+fn c(block: &Block) -> Option<&Expr>
+    ensures { option_copied result ≡ operand block.now 2 }
+{
+    block.operand(C)
+}
+
+#[inline(always)]
+fn d(block: &Block) -> Option<&Expr>
+    ensures { option_copied result ≡ operand block.now 3 }
+{
+    block.operand(D)
+}
+
+#[inline(always)]
+fn e(block: &Block) -> Option<&Expr>
+    ensures { option_copied result ≡ operand block.now 4 }
+{
+    block.operand(E)
 }
 
 // A MARK and a BUFFER neither ask nor draw.

@@ -25,9 +25,9 @@ pub trait Course {
         ensures { result.now ≡ machine self.now };
 
     // Makes of a move that was decided what it makes of it; or nothing where memory is refused.
-    fn take(&mut self, alloc: Global, to: Move, streams: Streams) -> Result<(), AllocError>
+    fn take(&mut self, alloc: Global, to: Move, streams: &Streams) -> Result<(), AllocError>
         requires { IsMade (machine self.old) to }
-        ensures ok { OnOk result (makes to streams self.old self.new) }
+        ensures ok { OnOk result (makes to streams.now self.old self.new) }
         ensures err { OnErr result (self.new ≡ self.old) };
 }
 
@@ -43,7 +43,7 @@ impl Course for State {
     }
 
     #[inline(always)]
-    fn take(&mut self, alloc: Global, to: Move, streams: Streams) -> Result<(), AllocError> {
+    fn take(&mut self, alloc: Global, to: Move, streams: &Streams) -> Result<(), AllocError> {
         self.make(alloc, to, streams)
     }
 }
@@ -65,7 +65,7 @@ impl<'a> Course for Asked<'a> {
     }
 
     #[inline(always)]
-    fn take(&mut self, _alloc: Global, to: Move, _streams: Streams) -> Result<(), AllocError> {
+    fn take(&mut self, _alloc: Global, to: Move, _streams: &Streams) -> Result<(), AllocError> {
         drop(to);
         Ok(())
     }

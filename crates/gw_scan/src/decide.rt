@@ -1,5 +1,6 @@
 // Which move a step is: the next command's, or what comes of the block that the active transaction tries; where none is
 // active, the scan's. The course takes it.
+ghost use Rattle.std.specs.Prelude.{◌≡◌};
 ghost use Rattle.gw_meaning.specs.Step.{move_prog};
 ghost use Rattle.gw_scan.specs.Courses.{Goes};
 
@@ -18,12 +19,25 @@ pub fn go_on<C: Course>(course: &mut C, run: Run, notes: &mut Notes) -> Result<(
         result course.old course.new notes.old notes.new }
 {
     if course.state().remaining() == 0 {
-        return hand_on(
-            decide_command(course.state(), run, notes),
-            course,
-            run,
-            notes,
-        );
+        return command(course, run, notes);
     }
     attempt(course, run, notes)
+}
+
+// No START is under way: the next command is taken. It stands apart, so that a step of a transaction keeps no room for
+// its move.
+#[cold]
+#[inline(never)]
+fn command<C: Course>(course: &mut C, run: Run, notes: &mut Notes) -> Result<(), Halt>
+    requires { (C.machine course.old).remaining ≡ 0 }
+    ensures { Goes C.makes run.entry.version.now run.entry.seed
+        (move_prog (C.machine course.old) (C.machine course.old).remaining)
+        result course.old course.new notes.old notes.new }
+{
+    hand_on(
+        decide_command(course.state(), run, notes),
+        course,
+        run,
+        notes,
+    )
 }

@@ -2,6 +2,11 @@
 //!
 //! [`step`] is the step of the definitions: it makes the same move with the same questions, or says why none
 //! follows and changes nothing. A refused growth changes nothing either.
+//!
+//! A step is noted as the first step of exactly those items that it reads and that no earlier step read. An end, and a
+//! refused growth, leave nothing noted. Only a move is counted.
+//!
+//! Contracts: `step`, `end_at`.
 #![tactic(auto)]
 
 mod attempt;

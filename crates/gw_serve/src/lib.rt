@@ -1,4 +1,8 @@
 //! Workers that take legs from a bench, work them outside its lock and post them.
+//!
+//! Nothing is proved beyond safety: a worker has no call but a bench's.
+//!
+//! Contract: `serve`.
 #![tactic(auto)]
 
 use gw_bench::{Bench, Leg, Pass, RowName};

@@ -1,7 +1,12 @@
-//! Lists whose copies share what did not change: one that is edited anywhere ([`SharedList`]), and one that grows and is
-//! cut at its end ([`Growing`]).
+//! Lists whose copies share what did not change: one that is edited anywhere ([`SharedList`]), one that grows and is cut
+//! at its end ([`Growing`]), and one of values that are not `Copy`, which are changed where they stand ([`SharedValues`]).
 //!
 //! All that grows is reserved first, so a refused growth changes no item.
+//!
+//! Items are read, set, pushed, inserted and removed as in the plain list. A copy has the items of what it copies,
+//! whatever is done to either afterwards.
+//!
+//! Contracts: the calls of `SharedList`, `SharedValues` and `Growing`.
 #![tactic(auto)]
 
 mod buffer;
@@ -11,6 +16,8 @@ mod growing;
 mod list;
 mod long;
 mod place;
+mod values;
 
 pub use growing::Growing;
 pub use list::SharedList;
+pub use values::{SharedValues, Sharing};

@@ -1,4 +1,4 @@
-ghost use Rattle.std.specs.Prelude.{◌≡◌, ◌==◌, ◌<◌, ◌≤◌, ◌+◌, ◌^◌, ◌++◌, ◌∷◌, [], Some, IfOk, OnOk, IfNone, length, insert, remove, slice_get, slice_set, option_to_list};
+ghost use Rattle.std.specs.Prelude.{◌≡◌, ◌==◌, ◌<◌, ◌≤◌, ◌+◌, ◌^◌, ◌++◌, ◌∷◌, [], Some, IfOk, OnOk, IfNone, length, take, drop, vec_len, vec_capacity, insert, remove, slice_get, slice_set, option_to_list};
 ghost use Rattle.std.specs.Slice.{IsItemAt};
 ghost use Rattle.gw_shared.specs.Runs.{IsRun};
 ghost use Rattle.std.specs.VecDeque.{deque_len, deque_capacity};
@@ -225,7 +225,26 @@ impl<T: Copy> SharedList<T> {
         }
     }
 
+    /// So many items go, from an index on, to the end of `into`, which has room for them.
+    pub fn take_run(&mut self, start: usize, count: usize, into: &mut Vec<T>)
+        requires room { count ≤ self.old.room }
+        requires within { start + count ≤ length self.old.items }
+        requires capacity { vec_len into.old + count ≤ vec_capacity into.old }
+        ensures taken { into.new.items ≡ into.old.items ++ take count (drop start self.old.items) }
+        ensures items { self.new.items ≡ take start self.old.items ++ drop (start + count) self.old.items }
+        ensures room { self.old.room ≤ self.new.room + count }
+        ensures len { vec_len into.new ≡ vec_len into.old + count }
+        ensures capacity { vec_capacity into.new ≡ vec_capacity into.old }
+    {
+        match &mut self.form {
+            Form::Empty(_) => (),
+            Form::Plain(items) => take_plain(items, start, count, into),
+            Form::Long(items) => take_long(items, start, count, into),
+        }
+    }
+
     /// Another item at an index.
+    #[inline(always)]
     pub fn set(&mut self, index: usize, x: T)
         requires room { 0 < self.old.room }
         requires within { index < length self.old.items }
@@ -358,5 +377,42 @@ fn plain_run<T: Copy>(items: &VecDeque<T>, index: usize) -> &[T]
         front.split_at(index).1
     } else {
         back.split_at(index - front.len()).1
+    }
+}
+
+// So many items go, from an index on. The deque is rotated until they are in front, so each other item moves at most
+// twice.
+fn take_plain<T: Copy>(items: &mut VecDeque<T>, start: usize, count: usize, into: &mut Vec<T>)
+    requires within { start + count ≤ length items.old.items }
+    requires capacity { vec_len into.old + count ≤ vec_capacity into.old }
+    ensures taken { into.new.items ≡ into.old.items ++ take count (drop start items.old.items) }
+    ensures items { items.new.items ≡ take start items.old.items ++ drop (start + count) items.old.items }
+    ensures count { deque_len items.new ≤ deque_len items.old }
+    ensures room { deque_capacity items.new ≡ deque_capacity items.old }
+    ensures len { vec_len into.new ≡ vec_len into.old + count }
+    ensures capacity { vec_capacity into.new ≡ vec_capacity into.old }
+{
+    items.rotate_left(start);
+    for _one in 0..count {
+        match items.pop_front() {
+            Some(x) => into.push_reserved(x),
+            None => unreachable!(),
+        }
+    }
+    items.rotate_right(start);
+}
+
+fn take_long<T: Copy>(items: &mut LongList<T>, start: usize, count: usize, into: &mut Vec<T>)
+    requires room { count ≤ items.old.room }
+    requires within { start + count ≤ length items.old.items }
+    requires capacity { vec_len into.old + count ≤ vec_capacity into.old }
+    ensures taken { into.new.items ≡ into.old.items ++ take count (drop start items.old.items) }
+    ensures items { items.new.items ≡ take start items.old.items ++ drop (start + count) items.old.items }
+    ensures room { items.old.room ≤ items.new.room + count }
+    ensures len { vec_len into.new ≡ vec_len into.old + count }
+    ensures capacity { vec_capacity into.new ≡ vec_capacity into.old }
+{
+    for _one in 0..count {
+        into.push_reserved(take_out(items, start));
     }
 }

@@ -137,6 +137,7 @@ impl<T: Copy> LongList<T> {
     {
         if index == self.total - self.gone {
             push_in(&mut self.chunks, &mut self.spare, x);
+            self.full = one_more_full(&self.chunks, self.full);
         } else {
             let place = find(&self.chunks, self.full, self.total, self.gone + index);
             self.full = self.full.min(place.chunk);

@@ -289,9 +289,9 @@ impl Parts {
         let x = *x;
         let written = self.prepare_with(alloc, x.current, id, EntityKind::UserChain, key, &[])?;
         reserve_for(&mut self.current, count, written.count())?;
+        self.linked.unlink(key, count, to, &mut self.current)?;
         self.cross(x.current, id);
         self.active = Some(placed(&x, id));
-        self.linked.unlink(key, count, to, &mut self.current);
         self.wake(&written);
         Ok(())
     }

@@ -2,6 +2,12 @@
 //!
 //! A [`State`] changes by a move alone ([`State::make`]), which was decided before. All that grows is reserved first,
 //! so a refused growth changes nothing.
+//!
+//! Each part of a state is read as defined, and a copy is equal. A move is made as the definition says, with the streams
+//! after its draws, and wakes the transactions that wait for something that it writes. How many transactions live is as
+//! defined.
+//!
+//! Contracts: `State::make`, `copy`, `share`, `living`, the readers of `State` and of `Entities`.
 #![tactic(auto)]
 
 mod clocks;

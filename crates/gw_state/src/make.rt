@@ -65,9 +65,10 @@ impl Parts {
         ensures ok { OnOk result (machine_of self.new ≡ moved (machine_of self.old) moves.Reset) }
         ensures err { OnErr result (machine_of self.new ≡ machine_of self.old) }
     {
+        let linked = self.linked.anew()?;
         self.entities.count_anew(alloc, self.clocks.clock())?;
         self.counts.count_anew();
-        self.linked.count_anew();
+        self.linked = linked;
         self.clocks.reset();
         self.progress.count_command();
         Ok(())

@@ -45,13 +45,13 @@ impl State {
     /// writes. Where memory is refused, nothing changes. What each decided move is: a block that sends its transaction
     /// away changes nothing else, and the clock moves on to the least time of the future chain.
     #[inline(always)]
-    pub fn make(&mut self, alloc: Global, to: Move, streams: Streams) -> Result<(), AllocError>
+    pub fn make(&mut self, alloc: Global, to: Move, streams: &Streams) -> Result<(), AllocError>
         requires { IsMade self.old to }
-        ensures ok { OnOk result (self.new ≡ decided self.old to streams) }
+        ensures ok { OnOk result (self.new ≡ decided self.old to streams.now) }
         ensures err { OnErr result (self.new ≡ self.old) }
     {
         self.parts.make(alloc, to)?;
-        self.parts.streams = streams;
+        self.parts.streams = *streams;
         Ok(())
     }
 

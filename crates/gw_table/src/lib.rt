@@ -6,6 +6,8 @@
 //!
 //! What grows is reserved first: where [`Table::reserve`] made room for a number, there is room for good, and
 //! [`Table::set`] needs no memory and cannot fail.
+//!
+//! Contracts: `Table::get`, `pair`, `set`, `reserve`, `copy`.
 #![tactic(auto)]
 
 mod table;

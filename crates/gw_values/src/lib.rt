@@ -2,6 +2,11 @@
 //!
 //! A function gives what its evaluation in the definitions comes to in a [`Context`], or a [`gw_expr::Halt`]. It
 //! changes nothing but the notes of what it asks and draws.
+//!
+//! The evaluation is that for the transaction that asks. An attempt that may wait keeps each thing that it read, once.
+//!
+//! Contracts: `value_there`, `value_or_zero`, `key_of`, `units_of`, `time`, `arrival`, `arrivals`, `value_traced`,
+//! `entity_traced`.
 #![tactic(auto)]
 
 mod arriving;

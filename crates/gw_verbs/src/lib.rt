@@ -2,6 +2,10 @@
 //!
 //! A verb has one public function, in the order of its definition (specs/Step of gw_meaning): it asks, draws and tests,
 //! and gives the move or why none follows. It changes nothing but the notes.
+//!
+//! The move is the definition's, with its questions and its draws.
+//!
+//! Contracts: `decide_seize`, `decide_enter`, `decide_test`, ..
 #![tactic(auto)]
 
 mod advance;

@@ -1,12 +1,11 @@
-use Rattle.std.proofs.Common.{◌+◌, ◌<◌, length, ◌∙◌, arith, rules}
-use Rattle.std.proofs.lemmas.List.{length-set}
-use Rattle.gw_chains.proofs.LinkedLaws.{anew_next}
+use Rattle.std.proofs.Common.{◌+◌, ◌∙◌, arith}
+use Rattle.gw_entities.proofs.Anew.{one_more_anew}
+use Rattle.gw_meaning.specs.Changes.{user_chain_anew}
 use Rattle.gw_chains.proofs.linked.all_anew.Goals as goal
 
 pub loop-index-preserved : goal.loop-index-preserved
 loop-index-preserved c =
-    let cs = c.loop-index.chains.items in
-    let within : c.loop-index.index < length cs = search rules in
-    let next = anew_next cs c.args.chains.now.items c.loop-index.index (c.loop-index.index + 1) c.index_mut.result.now c.count_anew.new.self (omega arith) within
-    c.index_mut.ensures.value c.count_anew.ensures c.loop-index.invariant.done c.loop-index.invariant.left in
-    record { long = length-set cs c.loop-index.index c.count_anew.new.self ∙ c.loop-index.invariant.long; done = next.0; left = next.1 }
+    let i = c.loop-index.index in
+    c.in_ok-push.ensures.ok ∙
+    one_more_anew user_chain_anew c.args.chains.now i (i + 1) c.at.result.now c.in_ok-anew.field-0 c.loop-index.all (omega arith)
+    c.at.ensures c.in_ok-anew.ensures c.loop-index.invariant

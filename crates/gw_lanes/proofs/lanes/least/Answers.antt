@@ -6,6 +6,6 @@ pub returns : goal.returns
 returns c =
     let blocks = c.as_chunks.result.0.now in
     let rest = c.as_chunks.result.1.now in
-    by_blocks 18446744073709551615 8 c.args.values.now rest c.least_lanes.result blocks c.least_from.result c.least_from-2.result
+    by_blocks 18446744073709551615 8 c.args.values.now rest blocks c.least_in_blocks.result c.least_from.result
     (grind (arith)) (omega (arith, c.type_inv.values 0))
-    c.as_chunks.ensures.front c.as_chunks.ensures.back c.least_lanes.ensures c.least_from.ensures c.least_from-2.ensures
+    c.as_chunks.ensures.front c.as_chunks.ensures.back c.least_in_blocks.ensures c.least_from.ensures

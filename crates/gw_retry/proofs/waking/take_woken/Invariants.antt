@@ -1,6 +1,5 @@
-use Rattle.std.proofs.Common.{◌≡◌, ◌≤◌, ◌+◌, ◌++◌, not, length, filter}
+use Rattle.std.proofs.Common.{◌≡◌, ◌≤◌, ◌+◌, ◌++◌, length}
 use Rattle.std.specs.Prelude.{vec_len, vec_capacity}
-use Rattle.gw_retry.specs.declared.retry.Waiting.{Waiting}
 use Rattle.gw_retry.specs.Groups.{AreGrouped}
 use Rattle.gw_retry.specs.Waiting.{is_written, woken_of, others_of, AreListed}
 use Rattle.gw_retry.proofs.Grouped.{AreLeft}

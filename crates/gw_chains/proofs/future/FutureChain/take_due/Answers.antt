@@ -1,7 +1,7 @@
 use Rattle.std.proofs.Common.{ap, arith, filter, not, subst, sym, ◌∙◌}
 use Rattle.gw_meaning.specs.Changes.{all_lined_up, due, is_due}
 use Rattle.gw_chains.specs.Blocks.{all_items, IsNoneBefore}
-use Rattle.gw_chains.proofs.EventLaws.{none_before, before_front}
+use Rattle.gw_chains.proofs.EventLaws.{none_before, before_back, before_front}
 use Rattle.gw_chains.proofs.FutureLaws.{stepped}
 use Rattle.gw_chains.proofs.future.FutureChain.take_due.Goals as goal
 
@@ -10,6 +10,12 @@ take_from_full-self-inside-requires-clause-before c =
     let t = c.args.time in
     let whole = subst (IsNoneBefore t) (sym (ap (λ s. s.items) c.self.view_is)) (none_before t c.args.self.now.items c.requires.least) in
     before_front t (all_items c.self.inside.full.items) c.self.inside.last.items whole
+
+pub take_due-requires-clause-before : goal.take_due-requires-clause-before
+take_due-requires-clause-before c =
+    let t = c.args.time in
+    let whole = subst (IsNoneBefore t) (sym (ap (λ s. s.items) c.self.view_is)) (none_before t c.args.self.now.items c.requires.least) in
+    before_back t (all_items c.self.inside.full.items) c.self.inside.last.items whole
 
 pub overflow_sub-self : goal.overflow_sub-self
 overflow_sub-self c =

@@ -8,12 +8,12 @@ use Rattle.gw_meaning.specs.Machine.{no_chain, user_chain_at}
 use Rattle.gw_chains.proofs.LinkedLaws.{Begun, begun, one_more}
 use Rattle.gw_chains.proofs.linked.UserChains.link_first.Goals as goal
 
-behind : (c : goal.After-self-1) → Begun c.self.inside.keys.keys c.insert.new.self.keys c.self.inside.chains.items c.push_reserved.new.self.items
-    c.args.key.now (linked_to c.args.discipline c.args.x (user_chain_at (zip c.self.inside.keys.keys c.self.inside.chains.items) c.args.key.now)) (c.self.inside.count + 1)
+behind : (c : goal.After-self-1) → Begun c.self.inside.keys.keys c.insert.new.self.keys c.self.inside.chains c.push.new.self
+    c.args.key.now (linked_to c.args.discipline c.args.x (user_chain_at (zip c.self.inside.keys.keys c.self.inside.chains) c.args.key.now)) (c.self.inside.count + 1)
 behind c =
     let ks = c.self.inside.keys.keys in
     let js = c.insert.new.self.keys in
-    let cs = c.self.inside.chains.items in
+    let cs = c.self.inside.chains in
     let key = c.args.key.now in
     let own = c.link.new.self in
     let none : value_of (zip ks cs) key ≡ None = rw (← c.self.view_is) at c.requires.none in
@@ -23,7 +23,7 @@ behind c =
     let same : c.in_ok-own.own ≡ key = search rules in
     let keys : js ≡ insert_key key_eq ks key =
     c.insert.ensures.keys ∙ (ap (λ l. insert_key key_eq l c.in_ok-own.own) c.reserve.ensures.keys ∙ ap (λ k. insert_key key_eq ks k) same) in
-    let chains : c.push_reserved.new.self.items ≡ cs ++ own ∷ [] = c.push_reserved.ensures.items ∙ ap (λ l. l ++ own ∷ []) c.reserve-2.ensures.items in
+    let chains : c.push.new.self ≡ cs ++ own ∷ [] = c.in_ok-push.ensures.ok in
     rw (chains, linked)
     (begun ks js cs key _ c.self.inside.count _ c.self.invariant none keys
     (one_more (zip ks cs) key c.args.discipline c.args.x c.self.inside.count c.self.invariant.counted))

@@ -1,4 +1,4 @@
-use Rattle.std.proofs.Common.{◌<◌, length, ap, sym, arith, ◌∙◌}
+use Rattle.std.proofs.Common.{◌<◌, length, ap, arith, ◌∙◌}
 use Rattle.std.specs.List.{zip}
 use Rattle.gw_entities.proofs.Beside.{set_beside}
 use Rattle.gw_entities.proofs.Keyed.{within_beside, key_at}

@@ -37,7 +37,7 @@ invariant_of-self g c =
             omega (arith, e, long),
             omega (arith, less),
             omega (arith, room),
-            w.push_in.ensures.full c.self.inside.full are,
+            w.one_more_full-self-inside.ensures,
           )
       | else-index-self w ↦
           let there = rw (← c.self.view_is) at c.requires.within in

@@ -22,9 +22,9 @@ returns-clause-ok c =
       counts = crossed fates.Active s.counts x.current c.args.id;
       active = Some (placed x c.args.id);
     } in
-    let q : Parts = record c.cross.new.self { active = Some c.placed.result } in
-    let is : machine_of q ≡ m = search rules in
-    let p : Parts = record q { linked = c.unlink.new.self; current = c.unlink.new.current } in
+    let p : Parts = record c.cross.new.self { active = Some c.placed.result } in
+    let same : record m { linked = c.prepare_with.new.self.linked; current = c.reserve_for.new.current.items } ≡ m = search rules in
+    let made : machine_of p ≡ record m { linked = c.unlink.new.self; current = c.unlink.new.current.items } = search rules in
     let before : machine_of p ≡ entering s x c.args.id (changes.Unlink c.args.key.now c.args.count c.args.to) fates.Active =
-    c.unlink.ensures.unlinked (machine_of q) ∙ ap (changed (changes.Unlink c.args.key.now c.args.count c.args.to)) is in
+    made ∙ (c.in_ok-unlink.ensures.ok m ∙ ap (changed (changes.Unlink c.args.key.now c.args.count c.args.to)) same) in
     entered_is s _ x c.args.id (changes.Unlink c.args.key.now c.args.count c.args.to) fates.Active list active c.in_ok-written.ensures.wakes (c.wake.ensures ∙ ap (woken list) before)
