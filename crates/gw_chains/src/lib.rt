@@ -1,6 +1,6 @@
 //! The chains of transactions (current, future, delay and user) as lists, and the counts of the blocks that they stand in.
 //!
-//! All that grows is reserved first, so a refused growth changes no list and no count.
+//! A refused growth changes no list and no count.
 //!
 //! What is proved:
 //!

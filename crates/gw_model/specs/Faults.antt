@@ -75,7 +75,7 @@ has_verb definition_verbs.Function (Some (definitions.Function function)) = true
 has_verb definition_verbs.Table (Some (definitions.Table table)) = true
 has_verb verb definition = false
 
--- a label that is not among those that are known
+-- no label, or one that is not among those that are known
 unfoldable pub is_unknown_label : (List ℕ → Bool) → Needed → Option (List ℕ) → Bool
 is_unknown_label known needed.Block None = true
 is_unknown_label known needed.Block (Some name) = not (known name)
@@ -85,7 +85,7 @@ is_unknown_label known (needed.Definition verb) name = false
 unfoldable pub has_unknown_label : List Numbered → Bool
 has_unknown_label lines = list_any (holds_in (is_unknown_label (λ name. is_some (labelled_in name lines)))) lines
 
--- a name with neither the definition that it needs nor an EQU in its place
+-- no name, or one with neither the definition that it needs nor an EQU in its place
 unfoldable pub is_undefined : (List ℕ → Option Definition) → Needed → Option (List ℕ) → Bool
 is_undefined definition needed.Block name = false
 is_undefined definition (needed.Definition verb) None = true
@@ -107,7 +107,7 @@ is_equ_named definition (needed.Definition verb) (Some name) =
 unfoldable pub has_equ_named : List Numbered → Bool
 has_equ_named lines = list_any (holds_in (is_equ_named (λ name. defined_in name lines))) lines
 
--- the first fault of the names that operands are, if they have one
+-- the first fault of the definitions that operands name, if they have one
 abbrev pub definition_fault_of : List Numbered → Option ModelFault
 definition_fault_of lines =
     if has_unknown_definition lines

@@ -34,12 +34,13 @@ wanted_verb class.V = Some definition_verbs.Variable
 wanted_verb class.Fn = Some definition_verbs.Function
 wanted_verb class = None
 
--- what the attributes of a class are of, where that must be there
+-- what is needed of attributes that are of a block, or else of definitions of this verb
 abbrev pub needed_with : Bool → Option DefinitionVerb → Option Needed
 needed_with true verb = Some Block
 needed_with false None = None
 needed_with false (Some verb) = Some (Definition verb)
 
+-- what the attributes of a class are of, where that must be there
 abbrev pub needed_in : Class → Option Needed
 needed_in class = needed_with (is_of_block class) (wanted_verb class)
 

@@ -23,7 +23,7 @@ pub fn has_unknown_label(lines: &[Numbered], labels: &BTreeMap<Name, StatementId
 }
 
 /// Whether an operand of a block, the expression of a VARIABLE or the argument of a FUNCTION or of a TABLE has a name
-/// without the definition that it needs.
+/// with neither the definition that it needs nor an EQU in its place, or no name where it needs one.
 #[tactic(auto, unfolding(crate::specs::Faults::has_unknown_definition))]
 pub fn has_unknown_definition(lines: &[Numbered], definitions: &BTreeMap<Name, Definition>) -> bool
     requires { (name : List ℕ) → tree.get (slice_cmp nat_cmp) definitions.now name ≡ defined_in name lines.now }

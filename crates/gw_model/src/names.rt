@@ -24,8 +24,8 @@ pub struct Names {
     pub definitions: BTreeMap<Name, Definition>,
 }
 
-/// What the labels of these lines stand for. No two blocks or definitions may have one label, and what an operand that
-/// is evaluated names must be there: a label must be that of a block, and a definition must be of its kind.
+/// What the labels of these lines stand for. No two blocks or definitions may have one label, and what operands name
+/// must be there: a label must be that of a block, and a definition must be of its kind.
 pub(crate) fn sound_names(alloc: Global, lines: &[Numbered]) -> Result<Names, ModelFault>
     ensures labels { IfOk result (λ names. (name : List ℕ) →
         tree.get (slice_cmp nat_cmp) names.labels name ≡ labelled_in name lines.now) }

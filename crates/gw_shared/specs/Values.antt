@@ -10,7 +10,7 @@ block_values b = unwrap_or (option_map (λ a. a.value.items) b.shared) b.own.ite
 abbrev pub in_blocks : {A : Type 0} → List (Block A) → List A
 in_blocks bs = flat_map block_values bs
 
--- each of these is full but the last, which has a value (16 is BLOCK)
+-- each of these is full, but the last may have fewer, and has one at the least (16 is BLOCK)
 abbrev pub AreLaidOut : {A : Type 0} → List (List A) → Type 0
 AreLaidOut [] = Unit {0}
 AreLaidOut (xs ∷ []) = (0 < length xs) × (length xs ≤ 16)

@@ -29,8 +29,8 @@ pub trait Sharing: Drop {
         ensures { IfOk result (λ v. v ≡ self.now) };
 }
 
-/// A list of values in blocks of 16, which copies share: a copy takes the time and the memory of a pointer for each
-/// block, and of the values of each block in which one was changed since.
+/// A list of values in blocks of 16, which copies share: a copy takes the time and the memory of four words for each
+/// block, and of the values of each block in which one was changed since the last `share`.
 #[derive(Drop)]
 pub struct SharedValues<V: Sharing> {
     blocks: Vec<Block<V>>,
