@@ -1,4 +1,5 @@
-// What a name must be, and is not: each fault is a test of what operands name.
+// What a name must be, and is not: each fault is a test of what operands name. An operand is one of a block, the
+// expression of a VARIABLE, or the argument of a FUNCTION or of a TABLE.
 ghost use Rattle.std.specs.Prelude.{◌≡◌, ◌||◌, ◌&&◌, ℕ, List, is_some, not, option_copied};
 ghost use Rattle.std.specs.BTreeMap as tree;
 ghost use Rattle.std.specs.Ordering.{nat_cmp};
@@ -12,8 +13,7 @@ use gw_meaning::{Definition, Numbered, StatementId};
 use gw_names::{DefinitionVerb, Name};
 use std::collections::BTreeMap;
 
-/// Whether an operand of a block, the expression of a VARIABLE or the argument of a FUNCTION or of a TABLE has the
-/// label of no block.
+/// Whether an operand has the label of no block.
 #[tactic(auto, unfolding(crate::specs::Faults::has_unknown_label))]
 pub fn has_unknown_label(lines: &[Numbered], labels: &BTreeMap<Name, StatementId>) -> bool
     requires { (name : List ℕ) → tree.get (slice_cmp nat_cmp) labels.now name ≡ labelled_in name lines.now }
@@ -22,8 +22,8 @@ pub fn has_unknown_label(lines: &[Numbered], labels: &BTreeMap<Name, StatementId
     any_named(lines, &UnknownLabel(labels))
 }
 
-/// Whether an operand of a block, the expression of a VARIABLE or the argument of a FUNCTION or of a TABLE has a name
-/// with neither the definition that it needs nor an EQU in its place, or no name where it needs one.
+/// Whether an operand has a name with neither the definition that it needs nor an EQU in its place, or no name where it
+/// needs one.
 #[tactic(auto, unfolding(crate::specs::Faults::has_unknown_definition))]
 pub fn has_unknown_definition(lines: &[Numbered], definitions: &BTreeMap<Name, Definition>) -> bool
     requires { (name : List ℕ) → tree.get (slice_cmp nat_cmp) definitions.now name ≡ defined_in name lines.now }
@@ -32,8 +32,7 @@ pub fn has_unknown_definition(lines: &[Numbered], definitions: &BTreeMap<Name, D
     any_named(lines, &Undefined(definitions))
 }
 
-/// Whether an operand of a block, the expression of a VARIABLE or the argument of a FUNCTION or of a TABLE has the name
-/// of a storage, of a TABLE, of a VARIABLE or of a FUNCTION that is an EQU's.
+/// Whether an operand has the name of a storage, of a TABLE, of a VARIABLE or of a FUNCTION that is an EQU's.
 #[tactic(auto, unfolding(crate::specs::Faults::has_equ_named))]
 pub fn has_equ_named(lines: &[Numbered], definitions: &BTreeMap<Name, Definition>) -> bool
     requires { (name : List ℕ) → tree.get (slice_cmp nat_cmp) definitions.now name ≡ defined_in name lines.now }
